@@ -60,14 +60,20 @@ pub has_texts : (fields : List (List ℕ)) (a b c d e : List ℕ) → length fie
     → text_at fields 0 ≡ Some a → text_at fields 1 ≡ Some b → text_at fields 2 ≡ Some c → text_at fields 3 ≡ Some d
     → text_at fields 4 ≡ Some e → keep_if has_shape fields ≡ Some (a ∷ b ∷ c ∷ d ∷ e ∷ [])
 unfolding field_at
+has_texts [] a b c d e five p q r s t = absurd (omega (arith, five))
+has_texts (v ∷ []) a b c d e five p q r s t = absurd (omega (arith, five))
+has_texts (v ∷ w ∷ []) a b c d e five p q r s t = absurd (omega (arith, five))
+has_texts (v ∷ w ∷ x ∷ []) a b c d e five p q r s t = absurd (omega (arith, five))
+has_texts (v ∷ w ∷ x ∷ y ∷ []) a b c d e five p q r s t = absurd (omega (arith, five))
 has_texts (v ∷ w ∷ x ∷ y ∷ z ∷ []) a b c d e five p q r s t = grind (arith, keep_if_some, keep_if_yes, all_texts)
-has_texts _ a b c d e five p q r s t = absurd (omega (arith, five))
+has_texts (v ∷ w ∷ x ∷ y ∷ z ∷ more ∷ later) a b c d e five p q r s t = absurd (omega (arith, five))
 
 -- fields that are the same are as many
 as_many : (xs ys : List (List ℕ)) → are_same xs ys ≡ true → length xs ≡ length ys
 as_many [] [] same = refl
-as_many (x ∷ xs) (y ∷ ys) same = grind (arith, and_parts, as_many xs ys)
-as_many _ _ same = cc
+as_many [] (y ∷ ys) same = cc
+as_many (x ∷ xs) [] same = cc
+as_many (x ∷ xs) (y ∷ ys) same = ap (λ n. suc n) (as_many xs ys (and_parts (bytes_eq x y) (are_same xs ys) same).1)
 
 -- a record with another number of fields is not the heading
 pub not_heading : (fields : List (List ℕ)) → length fields ≢ 5 → is_heading fields ≡ false
@@ -79,5 +85,10 @@ pub heading_words : (fields : List (List ℕ)) → length fields ≡ 5
     ≡ (is_at fields 0 (codes "kind") && (is_at fields 1 (codes "supplier") && (is_at fields 2 (codes "product")
     && (is_at fields 3 (codes "night") && is_at fields 4 (codes "places")))))
 unfolding field_at
+heading_words [] five = absurd (omega (arith, five))
+heading_words (v ∷ []) five = absurd (omega (arith, five))
+heading_words (v ∷ w ∷ []) five = absurd (omega (arith, five))
+heading_words (v ∷ w ∷ x ∷ []) five = absurd (omega (arith, five))
+heading_words (v ∷ w ∷ x ∷ y ∷ []) five = absurd (omega (arith, five))
 heading_words (v ∷ w ∷ x ∷ y ∷ z ∷ []) five = grind arith
-heading_words _ five = absurd (omega (arith, five))
+heading_words (v ∷ w ∷ x ∷ y ∷ z ∷ more ∷ later) five = absurd (omega (arith, five))

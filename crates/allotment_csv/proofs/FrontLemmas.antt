@@ -21,28 +21,32 @@ use Rattle.allotment_csv.proofs.RowLemmas.{good_row}
 -- so many rows as records
 pub as_many_rows : (front : List (List (List ℕ))) (rows : List Row) → AreRows front rows → length front ≡ length rows
 as_many_rows [] [] are = refl
+as_many_rows [] (r ∷ rows) are = absurd are
+as_many_rows (fields ∷ front) [] are = absurd are
 as_many_rows (fields ∷ front) (r ∷ rows) are = ap (λ n. suc n) (as_many_rows front rows are.2)
-as_many_rows _ _ are = absurd are
 
 -- one more row
 pub one_more_row : (front : List (List (List ℕ))) (rows : List Row) (fields : List (List ℕ)) (r : Row)
     → AreRows front rows → record_causes fields ≡ [] → row_of_record fields ≡ Some r
     → AreRows (front ++ (fields ∷ [])) (rows ++ (r ∷ []))
 one_more_row [] [] fields r are good is = (good, is, tt)
+one_more_row [] (s ∷ rows) fields r are good is = absurd are
+one_more_row (f ∷ front) [] fields r are good is = absurd are
 one_more_row (f ∷ front) (s ∷ rows) fields r are good is = grind (arith, one_more_row front rows fields r are.2 good)
-one_more_row _ _ fields r are good is = absurd are
 
 -- the rows of such records are these
 pub rows_of-front : (front : List (List (List ℕ))) (rows : List Row) → AreRows front rows → rows_of front ≡ rows
 rows_of-front [] [] are = refl
+rows_of-front [] (r ∷ rows) are = absurd are
+rows_of-front (fields ∷ front) [] are = absurd are
 rows_of-front (fields ∷ front) (r ∷ rows) are = grind (arith, rows_of-front front rows)
-rows_of-front _ _ are = absurd are
 
 -- such rows keep the limits
 all_good : (front : List (List (List ℕ))) (rows : List Row) → AreRows front rows → list_all is_good_row rows ≡ true
 all_good [] [] are = refl
+all_good [] (r ∷ rows) are = absurd are
+all_good (fields ∷ front) [] are = absurd are
 all_good (fields ∷ front) (r ∷ rows) are = grind (arith, and_make, good_row, all_good front rows)
-all_good _ _ are = absurd are
 
 -- no rows are those of no records
 no_rows : (front : List (List (List ℕ))) → AreRows front [] → front ≡ []
@@ -102,6 +106,8 @@ comes_to : (earlier front rest : List (List (List ℕ))) (before rows : List Row
     → repeat_behind before rows ≡ o → ComesTo earlier front rest o
 comes_to earlier [] rest before [] None are good few is = ap (λ xs. faults_behind xs rest) (sym (append-nil earlier))
 comes_to earlier [] rest before [] (Some i) are good few is = cc
+comes_to earlier [] rest before (r ∷ rows) o are good few is = absurd good
+comes_to earlier (fields ∷ front) rest before [] o are good few is = absurd good
 comes_to earlier (fields ∷ front) rest before (r ∷ rows) o are good few is =
     at_row earlier front rest fields before rows r o (is_new_cell r before) refl
     (row_faults-front earlier before fields r are good.0 good.1 (omega (arith, few)))
@@ -109,7 +115,6 @@ comes_to earlier (fields ∷ front) rest before (r ∷ rows) o are good few is =
     (one_more_row earlier before fields r are good.0 good.1) good.2
     (omega (arith, few, length-append before (r ∷ []))) later)
     is
-comes_to earlier _ rest before _ o are good few is = absurd good
 
 -- All rows.
 

@@ -22,10 +22,19 @@ use Rattle.allotment_csv.specs.Rows.{field_causes, record_causes, row_of_record}
 use Rattle.allotment_csv.specs.Files.{in_csv, rows_of, faults_behind, rows_faults, rows_in, named, batch_of}
 use Rattle.allotment_csv.specs.Fronts.{AreRows}
 use Rattle.allotment_csv.specs.declared.faults.CsvFault.{CsvFault}
-use Rattle.allotment_csv.proofs.RowLemmas.{the_row, few_places}
+use Rattle.allotment_csv.proofs.RowLemmas.{the_row}
 use Rattle.allotment_csv.proofs.FrontLemmas.{as_many_rows, one_more_row, rows_of-front, row_faults-front}
 
 -- A record.
+
+-- what is kept of a number is within the limits
+kept_within : (low high : ℕ) (o : Option ℕ) (n : ℕ) → option_and_then (keep_if (is_between low high)) o ≡ Some n
+    → is_between low high n ≡ true
+kept_within low high o n e = grind (arith, keep_if_some)
+
+-- places that are read are few enough
+places_few : (text : List ℕ) (n : ℕ) → places_in text ≡ Some n → nat_le n most_places ≡ true
+places_few text n e = (and_both _ _ (kept_within 0 most_places (number_in text) n e)).1
 
 -- the record is a row, which keeps the limits
 record IsGood (fields : List (List ℕ)) : Type 0 where
@@ -35,6 +44,11 @@ record IsGood (fields : List (List ℕ)) : Type 0 where
 
 -- five fields without a fault are such a row
 fields_good : (fields : List (List ℕ)) → length fields ≡ 5 → field_causes fields ≡ [] → IsGood fields
+fields_good [] many e = absurd (omega (arith, many))
+fields_good (kind ∷ []) many e = absurd (omega (arith, many))
+fields_good (kind ∷ supplier ∷ []) many e = absurd (omega (arith, many))
+fields_good (kind ∷ supplier ∷ product ∷ []) many e = absurd (omega (arith, many))
+fields_good (kind ∷ supplier ∷ product ∷ night ∷ []) many e = absurd (omega (arith, many))
 fields_good (kind ∷ supplier ∷ product ∷ night ∷ places ∷ []) many e =
     let last = append_none _ _ e in
     let third = append_none _ _ last.0 in
@@ -52,9 +66,9 @@ fields_good (kind ∷ supplier ∷ product ∷ night ∷ places ∷ []) many e =
           (keep_if_yes is_code supplier codes.0) (keep_if_yes is_code product codes.1) falls some;
       good = and_make _ _
           (and_make _ _ (and_make _ _ codes.0 codes.1) (night_text-night_in night n falls).0)
-          (few_places (number_in places) m some);
+          (places_few places m some);
     }
-fields_good _ many e = absurd (omega (arith, many))
+fields_good (kind ∷ supplier ∷ product ∷ night ∷ places ∷ more ∷ later) many e = absurd (omega (arith, many))
 
 -- a record without a fault is such a row
 record_good : (fields : List (List ℕ)) → record_causes fields ≡ [] → IsGood fields

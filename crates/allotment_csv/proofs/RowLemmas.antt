@@ -1,5 +1,6 @@
 -- The row of a record, and the first thing that is wrong with one that is none. For `rows`.
-use Rattle.std.proofs.Common.{◌≡◌, ◌∙◌, ap, sym, refl, ℕ, List, [], ◌∷◌, ◌++◌, Bool, true, false, Option, Some, None, ◌&&◌, nat_le, bytes_eq, is_some, option_and_then, if◌then◌else◌, Result, Ok, Err, MatchResult, arith, ok_or}
+use Rattle.std.proofs.Common.{◌≡◌, ◌∙◌, ap, sym, refl, ℕ, List, [], ◌∷◌, ◌++◌, Bool, true, false, Option, Some, None, ◌&&◌, nat_le, bytes_eq, is_some, option_and_then, if◌then◌else◌, Result, Ok, Err, MatchResult, arith}
+use Rattle.std.specs.Option.{ok_or}
 use Rattle.allotment.specs.Cells.{the_cell}
 use Rattle.allotment.specs.Limits.{is_between, is_code, is_good_cell, is_night, most_places}
 use Rattle.allotment.specs.Making.{unless}
@@ -177,7 +178,7 @@ good_cell : (k : Option Kind) (s p : List ℕ) (n : Option ℕ) (x : Cell) → c
 good_cell k s p n x is = search (arith, keep_if_some)
 
 -- places that are read keep the limits
-pub few_places : (o : Option ℕ) (m : ℕ) → option_and_then (keep_if (is_between 0 most_places)) o ≡ Some m
+few_places : (o : Option ℕ) (m : ℕ) → option_and_then (keep_if (is_between 0 most_places)) o ≡ Some m
     → nat_le m most_places ≡ true
 few_places o m is = grind (arith, and_both, keep_if_some)
 
@@ -189,5 +190,10 @@ good_parts c n r is cell places = grind (arith, and_make)
 
 -- the row of a record keeps the limits
 pub good_row : (fields : List (List ℕ)) (r : Row) → row_of_record fields ≡ Some r → is_good_row r ≡ true
+good_row [] r is = cc
+good_row (a ∷ []) r is = cc
+good_row (a ∷ b ∷ []) r is = cc
+good_row (a ∷ b ∷ c ∷ []) r is = cc
+good_row (a ∷ b ∷ c ∷ d ∷ []) r is = cc
 good_row (kind ∷ supplier ∷ product ∷ night ∷ places ∷ []) r is = search (arith, good_parts, good_cell, few_places)
-good_row _ r is = cc
+good_row (a ∷ b ∷ c ∷ d ∷ e ∷ f ∷ more) r is = cc

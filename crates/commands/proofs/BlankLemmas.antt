@@ -1,12 +1,11 @@
--- The words of a reply contain no blank, so cutting its line at blanks gives the words back, and a line is the line of the reply
--- whose words it has. For the readers of lines.
-use Rattle.std.proofs.Common.{refl, arith, eq-eqb, ◌≡◌, ℕ, ◌<◌, ◌^◌, ◌==◌, not, Bool, true, List, [], ◌∷◌, ◌++◌, decimal, IsTrue, ◌∙◌, ap, Option, Some, None}
+-- The words of a reply contain no blank, so cutting its line at blanks gives the words back. For the reader of lines.
 use Rattle.std.specs.List.{list_all}
 use Rattle.std.specs.Str.Parse.{AllDigits}
+use Rattle.std.proofs.Common.{refl, arith, eq-eqb, ◌≡◌, ℕ, ◌<◌, ◌^◌, ◌==◌, not, Bool, true, List, [], ◌∷◌, ◌++◌, decimal, IsTrue}
 use Rattle.std.proofs.lemmas.Bool.{and_from, and_parts, not-true}
 use Rattle.std.proofs.lemmas.Bool.Decides.{nat_tests}
 use Rattle.std.proofs.lemmas.Fmt.{decimal_is_IsNumeral}
-use Rattle.std.proofs.lemmas.List.Splits.{slice_split-cons_yes, slice_split-cons_no, join_with_byte-slice_split}
+use Rattle.std.proofs.lemmas.List.Splits.{slice_split-cons_yes, slice_split-cons_no}
 use Rattle.std.proofs.lemmas.Str.Parse.{digit_from_value}
 use Rattle.allotment.specs.Limits.{is_between}
 use Rattle.allotment.specs.Texts.{parts, joined, blank}
@@ -15,9 +14,8 @@ use Rattle.commands.specs.declared.items.Item.{Item}
 use Rattle.commands.specs.declared.items.Phase.{Phase}
 use Rattle.commands.specs.declared.replies.Reply.{Reply}
 use Rattle.commands.specs.Names.{is_batch_byte, is_batch_name}
-use Rattle.commands.specs.Texts.{is_accepted, is_item, is_option, is_state, item_text, step_text, turn_letter, reply_line, FindsReply}
-use Rattle.commands.specs.Readings.{reply_words, state_words, Finds}
-use Rattle.commands.specs.declared.replies.Reply.TheVariants.{Loaded, Begun, Moved, Refused}
+use Rattle.commands.specs.Texts.{is_accepted, is_item, is_option, is_state, item_text, step_text, turn_letter}
+use Rattle.commands.specs.Readings.{reply_words, state_words}
 use Rattle.commands.proofs.NumberLemmas.{between_parts}
 
 -- the text has no such byte
@@ -32,7 +30,9 @@ has_no_blank text = lacks 32 text
 append_no_blank : (x y : List ℕ)
     → has_no_blank x ≡ true → has_no_blank y ≡ true → has_no_blank (x ++ y) ≡ true
 append_no_blank [] y front back = back
-append_no_blank (b ∷ x) y front back = grind (arith, and_parts, and_from, append_no_blank x y)
+append_no_blank (b ∷ x) y front back =
+    let both = and_parts (not (b == 32)) (has_no_blank x) front in
+    and_from _ _ both.0 (append_no_blank x y both.1 back)
 
 -- digits contain no byte below them
 digits_lack : (byte : ℕ) → byte < 48 → (ds : List ℕ) → AllDigits 10 ds → lacks byte ds ≡ true
@@ -101,23 +101,3 @@ pub parts_joined : (word : List ℕ) (words : List (List ℕ))
     → parts blank (joined blank (word ∷ words)) ≡ word ∷ words
 parts_joined word [] none = parts_alone word (and_parts (has_no_blank word) true none).0
 parts_joined word (next ∷ words) none = grind (arith, and_parts, parts_first, parts_joined next words)
-
--- a reply's line is its words, with a blank between each two
-pub line_joined : (reply : Reply) → reply_line reply ≡ joined blank (reply_words reply)
-line_joined reply = grind arith
-
--- an accepted reply's line is cut at its blanks into its words
-pub parts_line : (reply : Reply)
-    → IsTrue (is_accepted reply) → parts blank (reply_line reply) ≡ reply_words reply
-parts_line (Loaded name rows) good = parts_joined _ _ (words_no_blank (Loaded name rows) good)
-parts_line (Begun id) good = parts_joined _ _ (words_no_blank (Begun id) good)
-parts_line (Moved id item pos phase) good =
-    ap (parts blank) (line_joined (Moved id item pos phase))
-    ∙ parts_joined _ _ (words_no_blank (Moved id item pos phase) good)
-parts_line (Refused refusal) good = cc
-
--- what is found by the words of a line is found by the line
-pub found_by_words : (text : List ℕ) (texts : List (List ℕ)) (r : Option Reply)
-    → texts ≡ parts blank text → Finds is_accepted reply_words texts r → FindsReply text r
-found_by_words text texts None cut none = grind (arith, parts_line)
-found_by_words text texts (Some reply) cut found = grind (arith, join_with_byte-slice_split blank text)

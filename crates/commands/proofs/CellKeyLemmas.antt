@@ -1,7 +1,8 @@
 -- Cells as keys: two keys compare as equal exactly if the cells are equal. For repeats, and for the maps of a book in
 -- memory.
-use Rattle.std.proofs.Common.{rules, ◌≡◌, ℕ, Bool, List, ap, sym, ◌∙◌, ◌==◌, ◌&&◌, bytes_eq, arith, Ordering}
+use Rattle.std.proofs.Common.{rules, ◌≡◌, ℕ, Bool, List, ap, sym, ◌∙◌, ◌==◌, ◌&&◌, bytes_eq, arith}
 use Rattle.std.specs.Ordering.{is_eq, nat_cmp, ordering_then}
+use Rattle.std.specs.declared.cmp.Ordering.{Ordering}
 use Rattle.std.specs.Cmp.{IsTotalOrder, unsigned_ties, nat_eq_equiv}
 use Rattle.std.specs.Cmp.Rules.{comparing}
 use Rattle.std.specs.Cmp.Lexicographic.{slice_cmp, texts_ties, nat_list_eq_equiv}
@@ -22,9 +23,13 @@ cell_key_total = Prim.search (comparing, rules)
 pub is_eq-then : (a b : Ordering) → is_eq (ordering_then a b) ≡ (is_eq a && is_eq b)
 is_eq-then a b = grind arith
 
+-- three tests may be joined from either end
+and_three : (a b c : Bool) → (a && (b && c)) ≡ ((a && b) && c)
+and_three a b c = grind arith
+
 -- four tests may be joined from either end
 and_four : (a b c d : Bool) → (a && (b && (c && d))) ≡ (((a && b) && c) && d)
-and_four a b c d = grind arith
+and_four a b c d = grind (arith, and_three)
 
 -- four comparisons, one after another, find equality where all do
 is_eq-four : (a b c d : Ordering)
@@ -47,4 +52,14 @@ is_eq-cells k x = grind (arith, is_eq-four, is_eq-numbers, is_eq-texts)
 -- the comparison of cells is symmetric
 pub is_cell-swap : (x y : Cell) → is_cell x y ≡ is_cell y x
 is_cell-swap x y =
-    grind (arith, nat_list_eq_equiv.symm x.supplier y.supplier, nat_list_eq_equiv.symm x.product y.product, nat_eq_equiv.symm)
+    let supplier = nat_list_eq_equiv.symm x.supplier y.supplier in
+    let product = nat_list_eq_equiv.symm x.product y.product in
+    let night = nat_eq_equiv.symm x.night y.night in
+    ap (λ t. ((t && bytes_eq x.supplier y.supplier) && bytes_eq x.product y.product)
+    && (x.night == y.night)) (nat_eq_equiv.symm (kind_number x.kind) (kind_number y.kind))
+    ∙ ap (λ t. (((kind_number y.kind == kind_number x.kind) && t) && bytes_eq x.product y.product)
+    && (x.night == y.night)) supplier
+    ∙ ap (λ t. (((kind_number y.kind == kind_number x.kind) && bytes_eq y.supplier x.supplier) && t)
+    && (x.night == y.night)) product
+    ∙ ap (λ t. (((kind_number y.kind == kind_number x.kind) && bytes_eq y.supplier x.supplier)
+    && bytes_eq y.product x.product) && t) night

@@ -1,8 +1,11 @@
 pub mod NameLemmas
 pub mod NumberLemmas
 pub mod SpelledLemmas
+pub mod ItemLemmas
+pub mod ReplyLemmas
 pub mod WordLemmas
 pub mod BlankLemmas
+pub mod LineLemmas
 pub mod OneLineLemmas
 pub mod CellKeyLemmas
 pub mod RepeatLemmas

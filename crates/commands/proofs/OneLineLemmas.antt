@@ -16,7 +16,8 @@ use Rattle.commands.specs.declared.replies.Reply.{Reply}
 use Rattle.commands.specs.declared.replies.Reply.TheVariants.{Loaded, Begun, Moved, Refused}
 use Rattle.commands.specs.Texts.{is_accepted, is_journey, is_item, is_position, is_option, is_state, item_text, step_text, turn_letter, FindsReply, ReadsReply, HaveOneLine}
 use Rattle.commands.specs.Readings.{reply_words, state_words}
-use Rattle.commands.proofs.BlankLemmas.{lacks, number_lacks, parts_line}
+use Rattle.commands.proofs.BlankLemmas.{lacks, number_lacks}
+use Rattle.commands.proofs.LineLemmas.{parts_line}
 use Rattle.commands.proofs.NumberLemmas.{between_parts}
 
 -- numbers within limits with the same text are equal
@@ -34,7 +35,11 @@ cut_once : (x y u v : List ℕ) → lacks 46 x ≡ true → lacks 46 u ≡ true
 cut_once [] y [] v left right same = (refl, cc)
 cut_once [] y (b ∷ u) v left right same = grind (arith, dot_here, and_parts, lacks)
 cut_once (a ∷ x) y [] v left right same = grind (arith, dot_here, and_parts, lacks)
-cut_once (a ∷ x) y (b ∷ u) v left right same = grind (arith, and_parts, lacks, cut_once x y u v)
+cut_once (a ∷ x) y (b ∷ u) v left right same =
+    let in_x = and_parts (not (a == 46)) (lacks 46 x) left in
+    let in_u = and_parts (not (b == 46)) (lacks 46 u) right in
+    let later = cut_once x y u v in_x.1 in_u.1 cc in
+    (cc, later.1)
 
 -- a step and an option with the same text are equal
 step_once : (s o t p : ℕ) → IsTrue (is_option s o) → IsTrue (is_option t p)

@@ -1,9 +1,12 @@
 -- Rows whose cell stands in an earlier row: what the set of the earlier cells answers, and that a list without such a
 -- row has distinct cells. For `first_repeat` and `Batch::new`.
-use Rattle.std.proofs.Common.{◌≡◌, ℕ, ◌+◌, ◌<◌, Bool, true, false, List, [], ◌∷◌, ◌++◌, refl, ap, sym, ◌∙◌, subst, take, drop, get_or, arith, length-take-le, ◌&&◌, ◌||◌, not, if◌then◌else◌, length, Option, Some, None, is_none, is_eq, is_lt, Ordering, Less}
+use Rattle.std.proofs.Common.{◌≡◌, ℕ, ◌+◌, ◌<◌, Bool, true, false, List, [], ◌∷◌, ◌++◌, refl, ap, sym, ◌∙◌, subst, take, drop, get_or, arith, length-take-le, ◌&&◌, ◌||◌, not, if◌then◌else◌, length, Option, Some, None, is_none}
 use Rattle.std.proofs.lemmas.List.{take_more, drop_more}
 use Rattle.std.specs.List.{list_any, list_all}
 use Rattle.std.specs.BTreeSet as set
+use Rattle.std.specs.Ordering.{is_eq, is_lt}
+use Rattle.std.specs.declared.cmp.Ordering.{Ordering}
+use Rattle.std.specs.declared.cmp.Ordering.TheVariants.{Less}
 use Rattle.allotment.specs.Cells.{is_cell}
 use Rattle.allotment.specs.declared.cells.Cell.{Cell}
 use Rattle.allotment.specs.declared.cells.Row.{Row}
@@ -49,7 +52,15 @@ are_new earlier later = list_all (λ (r : Row). is_new_cell r earlier) later
 are_new-more : (earlier : List Row) (r : Row) (later : List Row)
     → are_new (earlier ++ (r ∷ [])) later ≡ (are_new earlier later && is_new_cell r later)
 are_new-more earlier r [] = refl
-are_new-more earlier r (s ∷ later) = grind (arith, has_row_of-more earlier r s.cell, is_cell-swap, are_new-more earlier r later)
+are_new-more earlier r (s ∷ later) =
+    ap (λ b. not b && are_new (earlier ++ (r ∷ [])) later) (has_row_of-more earlier r s.cell)
+    ∙ ap (λ b. not (if is_cell s.cell r.cell then true else has_row_of earlier s.cell) && b) (are_new-more earlier r later)
+    ∙ ap (λ b. not (if b then true else has_row_of earlier s.cell) && (are_new earlier later && is_new_cell r later))
+    (is_cell-swap s.cell r.cell)
+    ∙ parts (is_cell r.cell s.cell) (has_row_of earlier s.cell) (are_new earlier later) (has_row_of later r.cell)
+  where
+    parts : (a b c d : Bool) → (not (if a then true else b) && (c && not d)) ≡ ((not b && c) && not (a || d))
+    parts a b c d = grind arith
 
 -- no cell is repeated after these rows if the later ones are of other cells, and of distinct ones
 repeat_behind-none : (earlier later : List Row)
@@ -126,7 +137,16 @@ repeat_behind-rising : (earlier later : List Row) (last : Option CellKey)
     → rises_above last later ≡ true → repeat_behind earlier later ≡ None
 repeat_behind-rising earlier [] last new rising = refl
 repeat_behind-rising earlier (r ∷ later) last new rising =
-    grind (arith, repeat_behind-new, has_row_of-more, is_other, above_too, repeat_behind-rising (earlier ++ (r ∷ [])) later)
+    let both = and_both (is_above last (row_key r)) (rises_above (Some (row_key r)) later) rising in
+    repeat_behind-new earlier later r (new r.cell both.0)
+    ∙ repeat_behind-rising (earlier ++ (r ∷ [])) later (Some (row_key r))
+    (λ x above. has_row_of-more earlier r x
+    ∙ ap (λ b. if b then true else has_row_of earlier x) (is_other r.cell x above)
+    ∙ new x (above_too last (key_of r.cell) (key_of x) both.0 above))
+    both.1
+  where
+    and_both : (a b : Bool) → (a && b) ≡ true → (a ≡ true) × (b ≡ true)
+    and_both a b e = grind arith
 
 -- rows that rise repeat no cell
 pub repeat_among-rising : (rows : List Row) → rises rows ≡ true → repeat_among rows ≡ None

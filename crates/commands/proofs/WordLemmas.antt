@@ -1,71 +1,9 @@
--- Texts that are of no item, by their first letter; words that are of no reply; and the texts of three, five or seven words, one
--- by one. For the readers of items and of replies.
-use Rattle.std.proofs.Common.{arith, ◌≡◌, ◌≢◌, ℕ, ◌==◌, false, List, [], ◌∷◌, ◌++◌, None, IsTrue, get_or, refl, sym, ap, suc, true, not, codes, length, bytes_eq, ◌&&◌, Bor}
-use Rattle.std.proofs.lemmas.Bool.Decides.{nat_tests}
-use Rattle.std.proofs.lemmas.Bool.{and_parts}
-use Rattle.std.proofs.lemmas.List.{length-map}
+-- The texts of three, five or seven words, one by one. For the readers of replies by their words.
+use Rattle.std.specs.Borrow.{Bor}
+use Rattle.std.proofs.Common.{get_or, refl, sym, ap, arith, ◌≡◌, ◌≢◌, ℕ, suc, true, false, not, List, [], ◌∷◌, codes, length, bytes_eq}
 use Rattle.std.proofs.lemmas.Slice.Eq.{bytes_eq-Decides}
-use Rattle.commands.specs.declared.items.Item.{Item}
-use Rattle.commands.specs.declared.items.Item.TheVariants.{Transaction, Compensation, Turn, Save}
-use Rattle.commands.specs.declared.items.Cause.{Cause}
-use Rattle.commands.specs.Texts.{is_item, item_text, is_accepted, is_journey, is_state}
-use Rattle.commands.specs.Readings.{FindsCause, is_step_pair, step_pair_text, is_turn_pair, turn_pair_text, is_state_pair, state_pair_words, standing_words, moved_words, reply_words, texts_of, loaded_words, begun_words, stood_words, turned_words}
-use Rattle.commands.specs.declared.items.Phase.{Phase}
-use Rattle.commands.specs.declared.replies.Reply.{Reply}
-use Rattle.commands.specs.declared.replies.Reply.TheVariants.{Loaded, Begun, Moved, Refused}
-
--- no text begins with two bytes
-heads_apart : (a b : ℕ) (xs ys text : List ℕ) → (a == b) ≡ false → text ≡ a ∷ xs → text ≡ b ∷ ys → ⊥
-heads_apart a b xs ys text apart one other = grind (arith, nat_tests)
-
--- the text is of no item
-abbrev pub IsNoItem : List ℕ → Type 0
-IsNoItem text = (item : Item) → IsTrue (is_item item) → text ≡ item_text item → ⊥
-
--- the text after a T is no step and option
-pub no_transaction : (text rest : List ℕ) → text ≡ 84 ∷ rest
-    → ((pair : ℕ × ℕ) → IsTrue (is_step_pair pair) → rest ≡ step_pair_text pair → ⊥) → IsNoItem text
-no_transaction text rest first none (Transaction step option) good spelled = none (step, option) good cc
-no_transaction text rest first none _ good spelled = grind (arith, heads_apart)
-
--- the text after a C is no step and option
-pub no_compensation : (text rest : List ℕ) → text ≡ 67 ∷ rest
-    → ((pair : ℕ × ℕ) → IsTrue (is_step_pair pair) → rest ≡ step_pair_text pair → ⊥) → IsNoItem text
-no_compensation text rest first none (Compensation step option) good spelled = none (step, option) good cc
-no_compensation text rest first none _ good spelled = grind (arith, heads_apart)
-
--- the text after a B is no target and cause
-pub no_turn : (text rest : List ℕ) → text ≡ 66 ∷ rest
-    → ((pair : ℕ × Cause) → IsTrue (is_turn_pair pair) → rest ≡ turn_pair_text pair → ⊥)
-    → IsNoItem text
-no_turn text rest first none (Turn target cause) good spelled = none (target, cause) good cc
-no_turn text rest first none _ good spelled = grind (arith, heads_apart)
-
--- the text begins with no letter of an item
-pub no_letter : (text : List ℕ)
-    → ((rest : List ℕ) → text ≢ 84 ∷ rest) → ((rest : List ℕ) → text ≢ 67 ∷ rest)
-    → ((rest : List ℕ) → text ≢ 66 ∷ rest) → ((rest : List ℕ) → text ≢ 83 ∷ rest) → IsNoItem text
-no_letter text t c b s x good spelled = grind arith
-
--- the text ends with no letter of a cause
-pub no_cause : (text : List ℕ)
-    → ((front : List ℕ) → text ≢ front ++ (115 ∷ []))
-    → ((front : List ℕ) → text ≢ front ++ (114 ∷ []))
-    → ((front : List ℕ) → text ≢ front ++ (97 ∷ [])) → FindsCause text None
-no_cause text s r a front x spelled = grind arith
-
--- the words are of no reply
-abbrev pub IsNoReply : List (List ℕ) → Type 0
-IsNoReply words = (reply : Reply) → IsTrue (is_accepted reply) → words ≡ reply_words reply → ⊥
-
--- the words after the item are no phase and position
-pub no_state : (id item phase position : List ℕ)
-    → ((pair : ℕ × Phase)
-    → IsTrue (is_state_pair pair) → standing_words phase position ≡ state_pair_words pair → ⊥)
-    → IsNoReply (moved_words id item (standing_words phase position))
-no_state id item phase position none (Moved number made pos going) good spelled =
-    none (pos, going) (and_parts (is_journey number && is_item made) (is_state pos going) good).1 cc
-no_state id item phase position none _ good spelled = cc
+use Rattle.commands.specs.Readings.{texts_of, loaded_words, begun_words, stood_words, turned_words}
+use Rattle.commands.proofs.ReplyLemmas.{IsNoReply}
 
 -- the text of the word at this place, which is empty past the end
 abbrev pub word_at : List (Bor (List ℕ)) → ℕ → List ℕ
@@ -74,21 +12,36 @@ word_at words i = (get_or words i (record { ref_ptr = (0, 0); now = [] })).now
 -- three words, one by one
 three : (ws : List (Bor (List ℕ))) → length ws ≡ 3
     → texts_of ws ≡ word_at ws 0 ∷ word_at ws 1 ∷ word_at ws 2 ∷ []
+three [] count = absurd (omega arith)
+three (a ∷ []) count = absurd (omega arith)
+three (a ∷ b ∷ []) count = absurd (omega arith)
 three (a ∷ b ∷ c ∷ []) count = refl
-three _ count = absurd (omega (arith, count))
+three (a ∷ b ∷ c ∷ d ∷ ws) count = absurd (omega arith)
 
 -- five words, one by one
 five : (ws : List (Bor (List ℕ))) → length ws ≡ 5
     → texts_of ws ≡ word_at ws 0 ∷ word_at ws 1 ∷ word_at ws 2 ∷ word_at ws 3 ∷ word_at ws 4 ∷ []
+five [] count = absurd (omega arith)
+five (a ∷ []) count = absurd (omega arith)
+five (a ∷ b ∷ []) count = absurd (omega arith)
+five (a ∷ b ∷ c ∷ []) count = absurd (omega arith)
+five (a ∷ b ∷ c ∷ d ∷ []) count = absurd (omega arith)
 five (a ∷ b ∷ c ∷ d ∷ e ∷ []) count = refl
-five _ count = absurd (omega (arith, count))
+five (a ∷ b ∷ c ∷ d ∷ e ∷ f ∷ ws) count = absurd (omega arith)
 
 -- seven words, one by one
 pub seven : (ws : List (Bor (List ℕ))) → length ws ≡ 7
     → texts_of ws
     ≡ word_at ws 0 ∷ word_at ws 1 ∷ word_at ws 2 ∷ word_at ws 3 ∷ word_at ws 4 ∷ word_at ws 5 ∷ word_at ws 6 ∷ []
+seven [] count = absurd (omega arith)
+seven (a ∷ []) count = absurd (omega arith)
+seven (a ∷ b ∷ []) count = absurd (omega arith)
+seven (a ∷ b ∷ c ∷ []) count = absurd (omega arith)
+seven (a ∷ b ∷ c ∷ d ∷ []) count = absurd (omega arith)
+seven (a ∷ b ∷ c ∷ d ∷ e ∷ []) count = absurd (omega arith)
+seven (a ∷ b ∷ c ∷ d ∷ e ∷ f ∷ []) count = absurd (omega arith)
 seven (a ∷ b ∷ c ∷ d ∷ e ∷ f ∷ g ∷ []) count = refl
-seven _ count = absurd (omega (arith, count))
+seven (a ∷ b ∷ c ∷ d ∷ e ∷ f ∷ g ∷ h ∷ ws) count = absurd (omega arith)
 
 -- texts for which `==` answers true are equal
 pub same_text : (a b : List ℕ) → true ≡ bytes_eq a b → a ≡ b
@@ -135,8 +88,13 @@ are_back ws count first back to =
       seven ws count,
     )
 
+-- there are as many texts as words
+length_texts : (ws : List (Bor (List ℕ))) → length (texts_of ws) ≡ length ws
+length_texts [] = refl
+length_texts (w ∷ ws) = ap (λ n. suc n) (length_texts ws)
+
 -- the reply for a journey which goes back has seven words, of which the first, the fourth and the sixth are fixed
 pub no_seven : (ws : List (Bor (List ℕ))) → length ws ≡ 7
     → (word_at ws 0 ≡ codes "journey" → word_at ws 3 ≡ codes "back" → word_at ws 5 ≡ codes "to" → ⊥)
     → IsNoReply (texts_of ws)
-no_seven ws count other x good spelled = grind (arith, length-map, seven)
+no_seven ws count other x good spelled = grind (arith, length_texts, seven)

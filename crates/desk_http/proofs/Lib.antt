@@ -1,6 +1,11 @@
 pub mod PlanTextLemmas
+pub mod DemandLemmas
+pub mod WhyLemmas
+pub mod AnswerLemmas
 pub mod ReasonLemmas
 pub mod ServeLemmas
+pub mod AgainLemmas
 pub mod AskLemmas
+pub mod MeantLemmas
 pub mod WorldLemmas
 pub mod RequestLemmas

@@ -1,77 +1,43 @@
--- A body that is refused, and the tests of the house and for a report, for the functions that read demands. What a request can demand
--- at a door: a command, which keeps the limits and is that of its request; what the house alone is shown, where the house asks; or
--- what anybody may be shown. For the laws over all messages, and for executions.
-use Rattle.std.proofs.Common.{◌≡◌, ◌∙◌, refl, ap, ℕ, List, Bool, Option, Some, None, Result, Ok, Err, if◌then◌else◌, subst, ◌∷◌, ◌++◌, true, false, IsTrue, codes, arith}
+-- What a request can demand at a door: a command, which keeps the limits and is that of its request; what the house alone is shown,
+-- where the house asks; or what anybody may be shown. For the laws over all messages, and for executions.
+use Rattle.std.proofs.Common.{◌≡◌, refl, subst, ℕ, List, [], ◌∷◌, ◌++◌, Bool, true, false, if◌then◌else◌, Option, Some, None, Result, Ok, Err, IsTrue, codes}
 use Rattle.std.specs.Prelude.{⊤}
 use Rattle.httparse.specs.Grammar.{RequestHead}
-use Rattle.serde_json.specs.Data.{Data}
 use Rattle.allotment.specs.Texts.{line_feed}
-use Rattle.plan.proofs.JsonKeptLemmas.{json_keeps_limits}
-use Rattle.commands.specs.Request.{Request}
-use Rattle.commands.specs.declared.replies.Refusal.{Refusal}
-use Rattle.commands.specs.declared.replies.Refusal.TheVariants.{BadBody, WrongMethod}
-use Rattle.commands.specs.Asks.{Asked}
-use Rattle.commands.specs.BatchData.{Batched}
-use Rattle.commands.specs.Request as asks
 use Rattle.allotment_csv.proofs.LimitLemmas.{batch_keeps_limits}
 use Rattle.allotment_csv.specs.Files.{batch_of}
 use Rattle.allotment_csv.specs.declared.faults.CsvFault.{CsvFault}
-use Rattle.http_messages.specs.Heads.{Parts, agent_of, is_method, is_unnamed, parts_of}
+use Rattle.allotment_csv.specs.declared.faults.CsvFault.TheVariants as csv
+use Rattle.commands.specs.Asks.{Asked}
+use Rattle.commands.specs.BatchData.{Batched}
+use Rattle.commands.specs.Request as asks
+use Rattle.commands.specs.Request.{Request}
+use Rattle.commands.specs.declared.replies.Refusal.{Refusal}
+use Rattle.commands.specs.declared.replies.Refusal.TheVariants.{WrongMethod}
+use Rattle.http_messages.specs.Heads.{Parts, agent_of, is_method, is_unnamed, key_of, parts_of}
 use Rattle.http_messages.specs.Messages.{Asks}
-use Rattle.ledger.specs.Answer.{is_request}
-use Rattle.saga_core.specs.declared.report.Report.{Report}
-use Rattle.http_pages.specs.Admitting.{plain}
 use Rattle.http_pages.specs.declared.routes.Denied.{Denied}
-use Rattle.http_pages.specs.declared.routes.Verb.TheVariants.{Get}
 use Rattle.http_pages.specs.declared.routes.Route.{Route}
-use Rattle.http_pages.specs.declared.routes.Route.TheVariants.{LoadBatch, Begin, Step, Abort, Save}
-use Rattle.report_words.specs.Targets.{asks_for_report}
-use Rattle.desk_http.specs.Demands.{Demand, SeeMetrics, Sender, Stop, admitted_of_house, asked_of_house, asked_report, carried, denied_by, report_demand, Carry, SeePage, SeeReport, admitted_by, agents_demand, asked_by, asked_by_nobody, asked_if, asks_for_metrics, asks_for_page, asks_to_stop, bare, begin_by, demand_of, demanded, house_demand, load_of, page_demand, sender_of, value_in}
-use Rattle.desk_http.specs.DemandValues.{AsksFor, Demands, demand_said}
-use Rattle.desk_http.specs.Monitored.{AsksForMetrics}
-use Rattle.desk_http.specs.declared.demands.Demand as values
-use Rattle.desk_http.specs.declared.demands.Demand.TheVariants as value
-use Rattle.desk_http.specs.declared.demands.Unmet.{Unmet}
-use Rattle.desk_http.specs.declared.demands.Unmet.TheVariants.{Refused}
+use Rattle.http_pages.specs.declared.routes.Route.TheVariants.{LoadBatch, Begin, Step, Abort, Save, ShowHealth}
+use Rattle.http_pages.specs.declared.routes.Verb.TheVariants.{Get}
+use Rattle.ledger.specs.Answer.{is_request}
+use Rattle.plan.proofs.JsonKeptLemmas.{json_keeps_limits}
+use Rattle.plan.specs.PlanJson.{plan_in_json}
+use Rattle.plan.specs.PlanModel.{Planned}
+use Rattle.plan.specs.declared.faults.BadPlan.{BadPlan}
+use Rattle.report_words.specs.Targets.{asks_for_report, report_asked}
+use Rattle.saga_core.specs.declared.report.Report.{Report}
+use Rattle.serde_json.specs.Data.{Data}
+use Rattle.desk_http.specs.Demands.{Carry, Demand, SeeMetrics, SeePage, SeeReport, admitted_by, admitted_of_house, agents_demand, asked_by, asked_by_nobody, asked_if, asked_of_house, asks_for_metrics, asks_for_page, asks_to_stop, bare, begin_by, begin_of, carried, carried_by, demand_of, demanded, denied_by, house_demand, load_of, page_demand, sender_of, value_in}
 use Rattle.desk_http.specs.Hosts.{refusal_at}
 use Rattle.desk_http.specs.Laws.{is_for_house}
-use Rattle.desk_http.specs.Pages.{Command, command_in, command_unless}
+use Rattle.desk_http.specs.Pages.{Command, command_in}
 use Rattle.desk_http.specs.declared.doors.Asker.{Asker}
 use Rattle.desk_http.specs.declared.doors.Asker.TheVariants as who
 use Rattle.desk_http.specs.declared.doors.Door.{Door}
 use Rattle.desk_http.specs.declared.doors.Door.TheVariants.{Port, House, Page}
-
--- a body that is refused makes no demand
-pub refused_body : (said : Result Request Refusal) (sender : Sender) (e : Unmet) → AsksFor said (Err e)
-    → Demands (denied_by (carried sender said)) (Err e)
-refused_body said sender e told = grind arith
-
--- the demand of the house, by whether it asks to stop, for metrics or for a report
-abbrev pub house_if : (stops metrics reports : Bool) → Parts → List ℕ → Result Demand Denied
-house_if stops metrics reports parts body =
-    if stops then Ok Stop
-    else if metrics then Ok SeeMetrics
-    else if reports then report_demand parts
-    else asked_of_house (admitted_of_house parts) parts body
-
--- words that ask for no report are malformed
-pub none_asked : (found : Option Report) (unmet : Unmet) → found ≡ None → unmet ≡ Refused (plain BadBody)
-    → Demands (asked_report found) (Err unmet)
-none_asked found unmet is denied = grind arith
-
--- what means that the metrics are shown is that demand
-pub metrics_said : (demand : values.Demand) → demand_said demand ≡ SeeMetrics → demand ≡ value.SeeMetrics
-metrics_said value.SeeMetrics = λ is. refl
-metrics_said _ = λ is. cc
-
--- a demand that is to see the metrics, and that a value represents, is that value
-pub metrics_asked : (said : Result Demand Denied) (demand : values.Demand) → said ≡ Ok (demand_said demand) → AsksForMetrics said
-    → demand ≡ value.SeeMetrics
-metrics_asked said demand is asks = let same : demand_said demand ≡ SeeMetrics = cc in metrics_said demand same
-
--- a denial is no demand
-pub denied_asks_nothing : (said : Result Demand Denied) (denied : Denied) → said ≡ Err denied → AsksForMetrics said → ⊥
-denied_asks_nothing said denied is asks = cc
+use Rattle.desk_http.proofs.AgainLemmas.{carry_of}
+use Rattle.desk_http.proofs.DemandLemmas.{house_if, report_if}
 
 -- an ask is that of the agent whom its request names, and its text is the target, a line feed and the body; without an ask the
 -- request names nobody
@@ -103,13 +69,21 @@ IsWithin (Ok asked) = IsTrue (is_request asked)
 IsWithin (Err why) = ⊤
 
 load_within : (name bytes : List ℕ) (r : Result Batched CsvFault) → batch_of name bytes ≡ r → IsWithin (load_of r)
-load_within name bytes r is = grind (arith, batch_keeps_limits)
+load_within name bytes (Ok b) is = batch_keeps_limits name bytes b is
+load_within name bytes (Err (csv.BadCsv row cause)) is = tt
+load_within name bytes (Err _) is = tt
+
+begin_within : (d : Data) (r : Result Planned BadPlan) → plan_in_json d ≡ r → IsWithin (begin_of r)
+begin_within d (Ok p) is = json_keeps_limits d p is
+begin_within d (Err fault) is = tt
 
 value_within : (o : Option Data) → IsWithin (begin_by o)
-value_within o = grind (arith, json_keeps_limits)
+value_within (Some d) = begin_within d (plan_in_json d) refl
+value_within None = tt
 
 bare_within : (body : List ℕ) (made : Request) → IsTrue (is_request made) → IsWithin (bare body made)
-bare_within body made good = grind arith
+bare_within [] made good = good
+bare_within (byte ∷ body) made good = tt
 
 -- Demands.
 
@@ -127,7 +101,14 @@ module _ (door : Door) (parts : Parts) (body : List ℕ) where
 
   carried_may : (asker : Asker) → IsAsker asker → (r : Result Request Refusal) → IsWithin r
       → MayDemand door parts body (denied_by (carried (sender_of asker parts body) r))
-  carried_may asker is r within = grind arith
+  carried_may asker is (Err why) within = tt
+  carried_may asker is (Ok asked) within = by_key asker (key_of parts) is
+    where
+      by_key : (a : Asker) (key : Option (List ℕ)) → IsAsker a
+          → MayDemand door parts body (denied_by (carried_by a key (sender_of asker parts body) asked))
+      by_key (who.Agent agent) (Some key) is = record { limits = within; asks = (is, refl) }
+      by_key (who.Agent agent) None is = tt
+      by_key who.House key is = record { limits = within; asks = is }
 
   -- on each route
   demanded_may : (asker : Asker) → IsAsker asker → (route : Route)
@@ -143,7 +124,8 @@ module _ (door : Door) (parts : Parts) (body : List ℕ) where
   agents_may = by_route (admitted_by parts)
     where
       nobody : (route : Route) → MayDemand door parts body (asked_by_nobody route)
-      nobody route = grind arith
+      nobody ShowHealth = tt
+      nobody _ = tt
 
       by_agent : (o : Option (List ℕ)) → agent_of parts ≡ o → (route : Route) → MayDemand door parts body (asked_by o parts body route)
       by_agent (Some agent) is route = demanded_may (who.Agent agent) is route
@@ -158,7 +140,12 @@ houses_may : (parts : Parts) (body : List ℕ) (stops metrics reports : Bool) �
     → MayDemand House parts body (house_if stops metrics reports parts body)
 houses_may parts body true metrics reports unnamed = tt
 houses_may parts body false true reports unnamed = (refl, unnamed)
-houses_may parts body false false true unnamed = grind arith
+houses_may parts body false false true unnamed = by_get (is_method (codes "GET") parts) (report_asked parts.target)
+  where
+    by_get : (gets : Bool) (found : Option Report) → MayDemand House parts body (report_if gets found)
+    by_get true (Some report) = (refl, unnamed)
+    by_get true None = tt
+    by_get false found = tt
 houses_may parts body false false false unnamed = by_route (admitted_of_house parts)
   where
     by_route : (r : Result Route Denied) → MayDemand House parts body (asked_of_house r parts body)
@@ -178,13 +165,6 @@ may_demand (Page site) parts body =
 
 -- For each message.
 
--- a message that makes a command has a head without complaint, and the demand to execute that command
-pub carry_of : (o : Option Refusal) (d : Result Demand Denied) (c : Command) → command_unless o d ≡ Some c
-    → (o ≡ None) × (d ≡ Ok (Carry c.0 c.1))
-carry_of (Some why) d c = λ is. cc
-carry_of None (Ok (Carry asked ask)) c = λ is. let e : (asked, ask) ≡ c = cc in (refl, ap (λ (x : Command). Ok (Carry x.0 x.1)) e)
-carry_of None _ c = λ is. cc
-
 -- a command that a message makes is that of its request
 pub command_of : (door : Door) (h : RequestHead) (body : List ℕ) (c : Command) → command_in door (Asks h body) ≡ Some c
     → IsCommandOf (parts_of h) body c.0 c.1
@@ -199,4 +179,6 @@ pub reports_for_house : (door : Door) (parts : Parts) (body : List ℕ) → is_f
 reports_for_house door parts body = by_demand (demand_of door parts body) (may_demand door parts body)
   where
     by_demand : (d : Result Demand Denied) → MayDemand door parts body d → is_for_house d ≡ true → IsTheHouses door parts
-    by_demand d is shown = grind arith
+    by_demand (Ok SeeMetrics) is shown = is
+    by_demand (Ok (SeeReport report)) is shown = is
+    by_demand _ is shown = cc

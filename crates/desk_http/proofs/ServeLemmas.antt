@@ -1,9 +1,9 @@
 -- Messages and their pages, with one more message. For who answers one message after another.
-use Rattle.std.proofs.Common.{◌≡◌, ◌∙◌, ap, sym, subst, refl, List, [], ◌∷◌, ◌++◌, ℕ, true, false, if◌then◌else◌, append_assoc, append-nil, arith}
+use Rattle.std.proofs.Common.{◌≡◌, ◌∙◌, ap, sym, subst, refl, List, [], ◌∷◌, ◌++◌, ℕ, Bool, true, false, if◌then◌else◌, append_assoc, append-nil}
 use Rattle.std.specs.List.{concat}
+use Rattle.ledger.specs.Answer.{State}
 use Rattle.http_messages.specs.Messages as sent
 use Rattle.http_messages.specs.Messages.{BeginsWith, BeginsWithAll}
-use Rattle.ledger.specs.Answer.{State}
 use Rattle.desk_http.specs.Pages.{ArePages, IsPage, closes, state_after, state_after_all, stays_open}
 use Rattle.desk_http.specs.declared.doors.Door.TheVariants.{Port}
 
@@ -28,7 +28,12 @@ after_more s (first ∷ ms) m = after_more (state_after Port s first) ms m
 pub open_more : (ms : List sent.Message) (m : sent.Message) → stays_open ms ≡ true → closes Port m ≡ false
     → stays_open (ms ++ m ∷ []) ≡ true
 open_more [] m stays other = ap (λ c. if c then false else true) other
-open_more (first ∷ ms) m stays other = grind (arith, open_more ms m)
+open_more (first ∷ ms) m stays other = go (closes Port first) stays (λ more. open_more ms m more other)
+  where
+    go : (c : Bool) → (if c then false else stays_open ms) ≡ true → (stays_open ms ≡ true → stays_open (ms ++ m ∷ []) ≡ true)
+        → (if c then false else stays_open (ms ++ m ∷ [])) ≡ true
+    go true stays more = stays
+    go false stays more = more stays
 
 pub concat_more : (ps : List (List ℕ)) (p : List ℕ) → concat (ps ++ p ∷ []) ≡ concat ps ++ p
 concat_more [] p = append-nil p

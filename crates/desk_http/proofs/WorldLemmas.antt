@@ -1,21 +1,21 @@
 -- How an execution continues with the messages of a connection. For serve.
 use Rattle.std.proofs.Common.{◌≡◌, ◌≤◌, ◌∙◌, ap, sym, subst, refl, inl, inr, arith, List, [], ◌∷◌, ◌++◌, ℕ, true, false, length, append_assoc, append-nil, IsTrue, Option, Some, None, Result, Ok, Err, IfOk, IfErr, IfSome}
-use Rattle.http_messages.specs.Messages as sent
-use Rattle.http_messages.specs.Messages.{Message, NoHead}
 use Rattle.ledger.specs.Answer.{State, start, is_request}
 use Rattle.ledger.specs.World.{Moment, after}
+use Rattle.http_messages.specs.Messages as sent
+use Rattle.http_messages.specs.Messages.{Message, NoHead}
 use Rattle.saga_core.specs.Runs as runs
 use Rattle.saga_core.specs.Runs.{Asks}
 use Rattle.saga_core.specs.Worlds.{KeepLimits, StandsAtEnd, EndsAmong}
 use Rattle.saga_core.proofs.WorldLemmas.{KeepLimits-append, ends-with, ends-after, ends-cut}
-use Rattle.saga_core.specs.StreamScenes.{Scene}
-use Rattle.saga_core.specs.declared.serve_faults.ServeFault.{ServeFault}
-use Rattle.saga_core.specs.declared.serve_faults.ServeFault.TheVariants.{Memory, Read, Store, Write}
 use Rattle.desk_http.specs.declared.doors.Door.{Door}
 use Rattle.desk_http.specs.declared.doors.Door.TheVariants.{Port}
 use Rattle.desk_http.specs.Pages.{Command, command_in, state_after, state_after_all, state_by}
+use Rattle.saga_core.specs.StreamScenes.{Scene}
 use Rattle.desk_http.specs.Serving.{ServesAll, ServesSome}
 use Rattle.desk_http.specs.Worlds.{asks_by, asks_in, EndsAmongMessages, EndsWithMessages, GoesOnAmongMessages, GoesOnWithMessages}
+use Rattle.saga_core.specs.declared.serve_faults.ServeFault.{ServeFault}
+use Rattle.saga_core.specs.declared.serve_faults.ServeFault.TheVariants.{Memory, Read, Store, Write}
 use Rattle.desk_http.proofs.RequestLemmas.{command_of}
 use Rattle.desk_http.proofs.ServeLemmas.{after_more}
 
@@ -41,7 +41,9 @@ in-limits (m ∷ ms) = by-in_limits (command_in Port m) (asks_in ms) (limits_of 
 -- the commands of messages followed by other messages
 pub asks_in-append : (ms ns : List Message) → asks_in (ms ++ ns) ≡ asks_in ms ++ asks_in ns
 asks_in-append [] ns = refl
-asks_in-append (m ∷ ms) ns = grind (arith, append_assoc, asks_in-append ms ns)
+asks_in-append (m ∷ ms) ns =
+    ap (λ l. asks_by (command_in Port m) ++ l) (asks_in-append ms ns)
+    ∙ sym (append_assoc (asks_by (command_in Port m)) (asks_in ms) (asks_in ns))
 
 -- one message makes at most one command
 pub one-asked : (o : Option Command) → length (asks_by o ++ []) ≤ 1
@@ -96,7 +98,11 @@ pub message-cut : (leaves : State → State → Type 0) (s : State) (ms : List M
     → leaves (state_after_all s ms) (state_after Port (state_after_all s ms) m)
     → leaves (runs.state_after s (asks_in ms)) (runs.state_after s (asks_in ms ++ asks_in (m ∷ [])))
 message-cut leaves s ms m left =
-    rw (← leads s ms, ← asks_in-append ms (m ∷ []), ← leads s (ms ++ m ∷ []), after_more s ms m) left
+    let both : runs.state_after s (asks_in ms ++ asks_in (m ∷ [])) ≡ state_after Port (state_after_all s ms) m =
+    ap (runs.state_after s) (sym (asks_in-append ms (m ∷ [])))
+    ∙ sym (leads s (ms ++ m ∷ [])) ∙ after_more s ms m in
+    subst (λ t. leaves t (runs.state_after s (asks_in ms ++ asks_in (m ∷ [])))) (leads s ms)
+    (subst (leaves (state_after_all s ms)) (sym both) left)
 
 -- the next message was cut off
 abbrev pub cuts : {stood : State → Type 0} (x : Scene) (w : List Moment) (ms : List Message) (m : Message)
@@ -113,8 +119,14 @@ cuts x w ms m here left =
 ends_by : {stood : State → Type 0} (x : Scene) (w : List Moment) (input : List ℕ) (fault : ServeFault)
     (some : ServesSome x (after start w) input fault) → ((u : State) → x.stands u → x.leaves u u)
     → StandsAtEnd stood w → EndsAmongMessages x w input fault
-ends_by x w input Read some same here =
-    record { some = some; next = []; comes = tt; among = stops-after x w some.messages same here some.leaves.1; carried_out = refl; under_way = refl }
+ends_by x w input Read some settled here = record {
+  some = some;
+  next = [];
+  comes = tt;
+  among = stops-after x w some.messages settled here some.leaves.1;
+  carried_out = refl;
+  under_way = refl;
+}
 ends_by x w input Write some settled here = record {
   some = some;
   next = some.leaves.0 ∷ [];
@@ -123,18 +135,25 @@ ends_by x w input Write some settled here = record {
   carried_out = (refl, refl);
   under_way = refl;
 }
-ends_by x w input Memory some settled here = elim some.leaves.1 [
-  | inl now ↦
-      record { some = some; next = []; comes = tt; among = stops-after x w some.messages settled here now; carried_out = inl refl; under_way = refl }
-  | inr next ↦ record {
-    some = some;
-    next = next.0 ∷ [];
-    comes = (next.1, next.2);
-    among = stops-with x w some.messages next.0 settled here next.3;
-    carried_out = inr refl;
-    under_way = refl;
-  }
-]
+ends_by x w input Memory some settled here =
+    elim some.leaves.1 [
+      | inl now ↦ record {
+        some = some;
+        next = [];
+        comes = tt;
+        among = stops-after x w some.messages settled here now;
+        carried_out = inl refl;
+        under_way = refl;
+      }
+      | inr next ↦ record {
+        some = some;
+        next = next.0 ∷ [];
+        comes = (next.1, next.2);
+        among = stops-with x w some.messages next.0 settled here next.3;
+        carried_out = inr refl;
+        under_way = refl;
+      }
+    ]
 ends_by x w input Store some settled here = record {
   some = some;
   next = some.leaves.1.0 ∷ [];

@@ -19,8 +19,8 @@ use Rattle.sqlite_resolve.specs.Compile.{index_defined_by}
 use Rattle.sqlite.specs.Table.{Table}
 use Rattle.sqlite.specs.Command.TheVariants.{CreateIndex}
 use Rattle.sqlite.specs.Change.{is_used, is_reserved, indexed}
-use Rattle.sqlite.specs.declared.error.Error.{Error}
 use Rattle.sqlite.specs.Does.{Tally, Does, MakesIndex as Does_index}
+use Rattle.sqlite.specs.declared.error.Error.{Error}
 use Rattle.sqlite.specs.Effect.{Database}
 use Rattle.sqlite.specs.Listing.{understood}
 use Rattle.sqlite.specs.State.{State, mode_of, Writes, Shows, ExecutesInside}
@@ -35,8 +35,8 @@ use Rattle.desk_sql.proofs.Causing.{takes}
 use Rattle.desk_sql.proofs.CreateReasons.{as_text}
 use Rattle.desk_sql.proofs.Framing.{shows_same}
 use Rattle.desk_sql.proofs.Indexes.{unique_more}
-use Rattle.desk_sql.proofs.Storing.{storable}
 use Rattle.desk_sql.proofs.Refusing.{gives_on, seen_with, statement_reason}
+use Rattle.desk_sql.proofs.Storing.{storable}
 use Rattle.desk_sql.proofs.Writing.{went, same_value}
 
 abbrev text : List ℕ

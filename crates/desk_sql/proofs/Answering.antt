@@ -1,6 +1,7 @@
 -- The answer of a query over a table of values, as values. For the lemmas of each query.
 use Rattle.std.proofs.Common.{◌≡◌, ◌⊎◌, inl, inr, ℕ, ℤ, List, [], ◌∷◌, map, filter, Bool, refl, sym, ap, ap₂, subst, ◌∙◌, IsPermutation, rules, arith}
-use Rattle.std.{specs.List.AllByRecursion, proofs.lemmas.List.Sorted.IsPermutation-map}
+use Rattle.std.specs.List.{AllByRecursion}
+use Rattle.std.proofs.lemmas.List.Sorted.{IsPermutation-map}
 use Rattle.sqlite.specs.Order.{Row}
 use Rattle.sqlite.specs.Term.{Term}
 use Rattle.sqlite.specs.Program.{overlay}
@@ -8,14 +9,15 @@ use Rattle.sqlite.specs.Query.{Query, IsAnswer, Output, output, output_cmp}
 use Rattle.sqlite_trees.specs.Tree.{Trees, IsAscending}
 use Rattle.sqlite_trees.proofs.ListLemmas.{ascending_from_map, ascending-map, ascending_weaker, filter-map, map-map, all-map}
 use Rattle.sqlite_value.specs.declared.keys.Key.{Key}
-use Rattle.sqlite_rules.{specs.Lists.Has, proofs.ListLemmas.all_has, proofs.ListLemmas.all_from}
+use Rattle.sqlite_rules.specs.Lists.{Has}
+use Rattle.sqlite_rules.proofs.ListLemmas.{all_has, all_from}
 use Rattle.desk_sql.proofs.Members.{permutation_from, permutation_to}
+use Rattle.desk_sql.specs.Lists.{numbered_row, IsTableOf, IsNumbered, IsListed}
+use Rattle.desk_sql.specs.Meanings.{sorted_rows}
 use Rattle.desk_sql.proofs.Reading.{passes, env_of, outputs_of, lists}
 use Rattle.desk_sql.proofs.Keyed.{value_of}
 use Rattle.desk_sql.proofs.Permuting.{permuted}
 use Rattle.desk_sql.proofs.Ascending.{IsUpTo, ascends, output_total}
-use Rattle.desk_sql.specs.Lists.{numbered_row, IsTableOf, IsNumbered, IsListed}
-use Rattle.desk_sql.specs.Meanings.{sorted_rows}
 
 -- the rows are those of these values: the values of the table that pass, in the order of the query
 pub record Answers {X : Type 0} (q : Query) (out : X → Output) (passing : List X) (rows : List Row) : Type 0 where
@@ -123,6 +125,12 @@ pub all_shown : {X : Type 0} (q : Query) (out : X → Output) (passing : List X)
 all_shown q out passing rows it P good = subst (AllByRecursion P) (sym it.rows_are)
     (all-map P (λ x. (out x).1) it.values (all_from _ it.values (λ x h. good x (permutation_from passing it.values x it.same h))))
 
+first_same : {C : Type 0} {a b : C} {cs ds : List C} → a ∷ cs ≡ b ∷ ds → a ≡ b
+first_same e = cc
+
+rest_same : {C : Type 0} {a b : C} {cs ds : List C} → a ∷ cs ≡ b ∷ ds → cs ≡ ds
+rest_same e = cc
+
 -- The values that were read of the rows are the values of the table.
 module _ {X V C : Type 0} (q : Query) (out : X → Output) (passing : List X) (rows : List Row) (it : Answers q out passing rows)
     (row_of : V → X) (show : V → C) (read : Row → C) (found : List V) (was : map show found ≡ map read rows)
@@ -131,8 +139,8 @@ module _ {X V C : Type 0} (q : Query) (out : X → Output) (passing : List X) (r
       → map show vs ≡ map read (map (λ x. (out x).1) xs) → map row_of vs ≡ xs
   values_read [] [] from e = refl
   values_read (v ∷ vs) (x ∷ xs) from e =
-      let first : show v ≡ read ((out x).1) = cc in
-      let rest : map show vs ≡ map read (map (λ x. (out x).1) xs) = cc in
+      let first : show v ≡ read ((out x).1) = first_same e in
+      let rest : map show vs ≡ map read (map (λ x. (out x).1) xs) = rest_same e in
       ap₂ ◌∷◌ (back v x (from x (inl refl)) first) (values_read vs xs (λ y h. from y (inr h)) rest)
   values_read vs xs from e = absurd (cc)
 

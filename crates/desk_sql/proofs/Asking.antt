@@ -5,28 +5,28 @@ use Rattle.sqlite.specs.declared.error.Error.{Error}
 use Rattle.sqlite.specs.declared.error.Error.TheVariants.{QueryReturnedNoRows}
 use Rattle.sqlite.specs.Order.{Row}
 use Rattle.sqlite.specs.Term.{Term}
-use Rattle.sqlite.specs.Program.{overlay}
+use Rattle.sqlite_value.specs.declared.keys.Key.{Key}
 use Rattle.sqlite.specs.Query.{Query, Output, IsAnswer, output, output_cmp}
+use Rattle.sqlite.specs.Program.{overlay}
 use Rattle.sqlite.specs.Store.{Ghosts}
 use Rattle.sqlite.specs.Held.{Held, state}
 use Rattle.sqlite.specs.State.{State, HasCleanDisk, IsUnchanged, QueriesRow, Shown, FailsToQuery}
-use Rattle.sqlite_value.specs.declared.keys.Key.{Key}
 use Rattle.sqlite_trees.specs.Tree.{Trees}
 use Rattle.sqlite_rules.specs.Lists.{Has}
 use Rattle.desk_sql.specs.declared.versions.Version.{Version}
+use Rattle.desk_sql.specs.Lists.{numbered_row, IsTableOf, IsNumbered, IsListed, IsOneOf, IsLeastOf}
 use Rattle.desk_sql.specs.Rows.{Tables, ShowsIn}
 use Rattle.desk_sql.specs.Calls.{MaySeeIn, Quiet}
-use Rattle.desk_sql.specs.Statements.{QueriesIn}
-use Rattle.desk_sql.specs.Lists.{numbered_row, IsTableOf, IsNumbered, IsListed, IsOneOf, IsLeastOf}
 use Rattle.desk_sql.specs.FoundRows.{IfRow, ReadsOne}
 use Rattle.desk_sql.specs.Causes.{IsUp, IsMemory, HasReason}
-use Rattle.desk_sql.specs.Meanings.{sorted_rows}
 use Rattle.desk_sql.specs.Queries.{IsSelect, one_row, GivesRow, GivesRows}
+use Rattle.desk_sql.specs.Statements.{QueriesIn}
+use Rattle.desk_sql.specs.Meanings.{sorted_rows}
 use Rattle.desk_sql.proofs.Answering.{Answers, numbered_answers, table_answers, all_shown, first_of, none_of, listed}
 use Rattle.desk_sql.proofs.Ascending.{IsUpTo, output_total}
 use Rattle.desk_sql.proofs.Causing.{Takes, one_table, query_reason}
-use Rattle.desk_sql.proofs.Meaning.{MeansIn}
 use Rattle.desk_sql.proofs.Finding.{first_row, no_row, whole_answer}
+use Rattle.desk_sql.proofs.Meaning.{MeansIn}
 use Rattle.desk_sql.proofs.Reading.{passes, env_of}
 use Rattle.desk_sql.proofs.Selecting.{ok_then, err_then}
 
@@ -132,7 +132,8 @@ module _ {X V C : Type 0} {v : Version} {text : List ℕ} {params : Row} {q : Qu
           let x = first_of q out (passing t) row all.0 all.1 in
           subst (λ z. IsFound t (Some z)) (sym (back t f x.0 x.1 (shown ∙ ap read x.2))) (some t x.0 x.1 x.3)
       found old new t sees None None shown given = none t (it.none old new t sees given)
-      found old new t sees row f shown given = absurd shown
+      found old new t sees (Some row) None shown given = absurd shown
+      found old new t sees None (Some f) shown given = absurd shown
 
       good : (old new : State) (t : Tables) → MaySeeIn v old t → Fits t → (row : Option Row) → GivesRow text params old new row → IfRow Good row
       good old new t sees fits (Some row) given =

@@ -1,28 +1,37 @@
 -- Why a read of the desk's tables fails: out of memory, or the disk failed. Each other error that the store names is shut
 -- out, by what the text means under the desk's schema.
 use Rattle.std.proofs.Common.{◌≡◌, ◌≢◌, ◌<◌, ℕ, List, [], length, append-nil, Bool, true, false, Ok, Err, Result, sym, ap, subst, ◌∙◌, arith, nat_le, ◌==◌, ◌&&◌, rules}
-use Rattle.std.proofs.lemmas.{Bool.and_parts, Bool.Decides.nat_tests}
+use Rattle.std.proofs.lemmas.Bool.{and_parts}
+use Rattle.std.proofs.lemmas.Bool.Decides.{nat_tests}
 use Rattle.sqlite.specs.declared.types.Value.{Value}
 use Rattle.sqlite.specs.declared.error.Error.{Error}
 use Rattle.sqlite.specs.declared.error.Error.TheVariants.{SqliteFailure}
-use Rattle.sqlite.specs.Term.{Term}
 use Rattle.sqlite.specs.declared.error.ErrorCode.TheVariants.{OutOfMemory as NoMemory}
+use Rattle.sqlite_trees.specs.declared.error.StoreError.{StoreError}
+use Rattle.sqlite_resolve.specs.declared.compiled.Compiled.{Compiled}
+use Rattle.sqlite_resolve.specs.declared.error.CompileError.{CompileError}
+use Rattle.sqlite_value.specs.declared.keys.Key.{Key}
 use Rattle.sqlite.specs.Order.{Row, column}
+use Rattle.sqlite.specs.Term.{Term}
 use Rattle.sqlite.specs.Tree.{Trees}
 use Rattle.sqlite.specs.Query.{Query}
 use Rattle.sqlite.specs.Program.{QueryOverflows}
+use Rattle.sqlite.specs.Command.TheVariants.{Select}
 use Rattle.sqlite.specs.Reading.{IsReadError}
+use Rattle.sqlite.specs.Effect.{Database, RefusesToRead}
 use Rattle.sqlite.specs.Listing.{understood}
-use Rattle.sqlite.specs.State.{State, FailsToQuery, IsNotRun, store_error}
-use Rattle.sqlite.proofs.Callers.{command_of, IsPlain}
-use Rattle.sqlite_trees.specs.declared.error.StoreError.{StoreError}
-use Rattle.sqlite_resolve.specs.declared.{compiled.Compiled.Compiled, error.CompileError.CompileError}
-use Rattle.sqlite_value.specs.declared.keys.Key.{Key}
 use Rattle.sqlite.specs.State as store
-use Rattle.sqlite_schema.specs.declared.schema.{Schema.Schema, Index.Index}
+use Rattle.sqlite.specs.State.{State, FailsToQuery, IsNotRun, store_error}
+use Rattle.sqlite_schema.specs.declared.program.Program.{Program}
+use Rattle.sqlite_schema.specs.declared.schema.Schema.{Schema}
+use Rattle.sqlite_schema.specs.declared.schema.Index.{Index}
 use Rattle.sqlite_typing.specs.Types.{accepts_program}
-use Rattle.desk_sql.{specs.declared.versions.Version.Version, specs.Schema.schema_with, specs.Schema.IsSchemaOf, specs.Meanings.sorted_rows}
-use Rattle.desk_sql.{specs.Causes.IsUp, specs.Causes.IsMemory, specs.Causes.HasReason, proofs.Meaning.MeansIn}
+use Rattle.sqlite.proofs.Callers.{command_of, IsPlain}
+use Rattle.desk_sql.specs.declared.versions.Version.{Version}
+use Rattle.desk_sql.specs.Schema.{schema_with, IsSchemaOf}
+use Rattle.desk_sql.specs.Meanings.{sorted_rows}
+use Rattle.desk_sql.specs.Causes.{IsUp, IsMemory, HasReason}
+use Rattle.desk_sql.proofs.Meaning.{MeansIn}
 
 -- Reading columns.
 
@@ -72,19 +81,28 @@ of_store old new up cause e is why = search (rules, arith)
 module _ {schema : Schema} (text : List ℕ) (params : Row) (plain : IsPlain (understood schema text))
     (whole : takes (length text) (length params) (understood schema text) ≡ true)
     (old new : State) (up : IsUp old) (has : old.now.schema ≡ schema) where
+  taken : (r : Result Compiled CompileError) → understood old.now.schema text ≡ r → takes (length text) (length params) r ≡ true
+  taken r is = search (rules, arith)
+
   pub plain_at : (c : Compiled) → understood old.now.schema text ≡ Ok c → IsPlain (Ok c)
   plain_at c is = subst IsPlain (sym (ap (λ s. understood s text) has) ∙ is) plain
 
   -- a statement that takes its parameters is run, unless the store failed
   pub not_run : (e : Error) → IsNotRun old new text params e → HasReason old new e
   unfolding IsNotRun
-  not_run e x = search (rules, arith, and_parts, nat_tests, plain_at, of_store)
+  not_run e x = search (rules, arith, taken, and_parts, nat_tests, plain_at, of_store)
 
 -- A query whose sums do not overflow, whichever tables it reads.
 module _ {q : Query} (sure : IsSure q) {v : Version} {text : List ℕ} {names : List (List ℕ)} (m : MeansIn v text q names)
     {params : Row} (old new : State) (up : IsUp old) (has : IsSchemaOf v old.now.schema)
     (fits : TakesUnder (schema_with v has.extra) text q params) where
+  abbrev program : Program
+  program = record { lets = []; body = q }
+
+  refused : (db : Database) (e : Error) → db ≡ old.now → ¬ RefusesToRead old.step_limit (Select program names) db params e
+  refused db e same x = search (rules, arith)
+
   -- such a query on the desk's tables fails out of memory, or where the disk failed or refused
   pub query_reason : (e : Error) → FailsToQuery text params old new e → HasReason old new e
   unfolding FailsToQuery
-  query_reason e x = search (rules, arith, not_run, plain_at, command_of, append-nil)
+  query_reason e x = search (rules, arith, not_run, plain_at, command_of, append-nil, refused)

@@ -1,28 +1,29 @@
 -- When the rules of SQL allow an UPDATE that keeps each row's rowid and keys. For the lemmas of each statement that updates.
-use Rattle.std.proofs.Common.{◌≡◌, ◌≢◌, ◌<ℤ◌, inl, inr, ℤ, List, [], ◌∷◌, map, filter, drop, length, Bool, true, false, not, if◌then◌else◌, Less, is_eq, refl, sym, ap, subst, ◌∙◌, nat_lt, IsPermutation, arith, rules}
+use Rattle.std.proofs.Common.{◌≡◌, ◌≢◌, ◌<ℤ◌, inl, inr, ℤ, List, [], ◌∷◌, map, filter, drop, length, Bool, true, false, not, ◌&&◌, if◌then◌else◌, Less, is_eq, refl, sym, ap, subst, ◌∙◌, nat_lt, ◌||◌, IsPermutation, arith, rules}
 use Rattle.std.specs.List.{IsDistinct, list_all}
-use Rattle.std.proofs.lemmas.{Map.Keys.IsDistinct-IsPermutation, Bool.or_cases, Bool.or_left, Bool.or_right, Bool.and_from, Bool.false_from_ne_true}
-use Rattle.sqlite_value.{specs.declared.value.Value.TheVariants.Int, proofs.OrderLemmas.value_cmp_total}
+use Rattle.std.proofs.lemmas.Bool.{or_cases, or_left, or_right, and_from, false_from_ne_true}
+use Rattle.std.proofs.lemmas.Map.Keys.{IsDistinct-IsPermutation}
+use Rattle.sqlite_value.specs.declared.value.Value.TheVariants.{Int}
+use Rattle.sqlite_value.proofs.OrderLemmas.{value_cmp_total}
 use Rattle.sqlite.specs.Order.{Row, value_cmp}
 use Rattle.sqlite.specs.Term.{Term}
 use Rattle.sqlite.specs.Table.{Table}
 use Rattle.sqlite.specs.Program.{overlay}
 use Rattle.sqlite.specs.Query.{IsAnswer}
 use Rattle.sqlite.specs.Cast.{cast_row}
-use Rattle.sqlite.specs.Rowids.TheVariants.{Given}
 use Rattle.sqlite.specs.Edit.{Edit, edit_of, edited, without_all, are_fresh, is_taken, left_by, id_in}
+use Rattle.sqlite.specs.Rowids.TheVariants.{Given}
 use Rattle.sqlite_trees.specs.Tree.{Trees, rowid, put_row, IsAscending}
-use Rattle.sqlite_trees.proofs.ListLemmas.{all-map, all_weaker, ascending-filter, filter-map, map-map}
 use Rattle.sqlite_schema.specs.declared.schema.Among.TheVariants.{All}
-use Rattle.sqlite_schema.specs.declared.schema.Reference.{Reference}
 use Rattle.sqlite_schema.specs.declared.schema.Constraint.TheVariants.{Unique, ForeignKey}
+use Rattle.sqlite_schema.specs.declared.schema.Reference.{Reference}
 use Rattle.sqlite_schema.specs.Rules.{is_key_of, is_key_if_to, has_null, is_held, parent_key, Refers, Obeys}
 use Rattle.sqlite_rules.specs.Lists.{Has}
 use Rattle.sqlite_rules.specs.InPlace.{AgreeAt, Twins, AreTwins}
 use Rattle.sqlite_rules.specs.Calls.{ids_of}
 use Rattle.sqlite_rules.proofs.ListLemmas.{all_has, all_from, some_has, has_filtered}
-use Rattle.sqlite_rules.proofs.TableLemmas.{put_has}
 use Rattle.sqlite_rules.proofs.ProbeLemmas.{has_mapped, mapped_has}
+use Rattle.sqlite_rules.proofs.TableLemmas.{put_has}
 use Rattle.sqlite_rules.proofs.RuleLemmas.{refers_at, refers_from}
 use Rattle.sqlite_rules.proofs.PlaceLemmas.{given, unique_stays, held_stays, twin_of, agrees_itself, null_same}
 use Rattle.desk_sql.specs.Schema.{desk_schema}
@@ -31,10 +32,15 @@ use Rattle.desk_sql.specs.Meanings.{every_row}
 use Rattle.desk_sql.proofs.Members.{permutation_from}
 use Rattle.desk_sql.proofs.Reading.{passes, shown_of}
 use Rattle.desk_sql.proofs.Keyed.{int_below}
-use Rattle.desk_sql.proofs.Refusing.{IsSafe}
-use Rattle.desk_sql.proofs.Writing.{Lands}
 use Rattle.desk_sql.proofs.Updating.{left_lacks, updated, Changes, answer_is}
+use Rattle.desk_sql.proofs.Refusing.{IsSafe}
 use Rattle.desk_sql.proofs.NewRow.{desk_apart, IsFit, edit_safe}
+use Rattle.desk_sql.proofs.Writing.{Lands}
+use Rattle.sqlite_trees.proofs.ListLemmas.{all-map, all_weaker, ascending-filter, filter-map, map-map}
+
+-- a row keeps its own rowid and keys
+twin_self : (table : Table) (r : Row) → Twins desk_schema table r r
+twin_self table r = search (rules, arith, all_from, agrees_itself)
 
 -- two rows have the same rowid
 abbrev pub is_same : Row → Row → Bool
@@ -126,9 +132,11 @@ module _ {X : Type 0} {f : X → Row} {id : X → ℤ} {db : Trees} {table : Tab
       (λ x n left new. false_from_ne_true (is_same x n) (λ tie.
       let s = has_mapped write answer n new in
       let o = from_answer s.0 s.1 in
-      let own : rowid s.0 ≡ Int (id o.0) = ap rowid o.3 ∙ it.id_shown o.0 in
-      let named : rowid n ≡ Int (id_in (rowid s.0)) = ap rowid s.2 ∙ id_of_shown s.0 s.1 ∙ rw own refl in
+      let named : rowid n ≡ Int (id_in (rowid s.0)) = ap rowid s.2 ∙ id_of_shown s.0 s.1 ∙ exact_id s.0 (id o.0) (ap rowid o.3 ∙ it.id_shown o.0) in
       left_lacks (ids_of answer) (db table.tree) x (id_in (rowid s.0)) left (mapped_has (λ (r : Row). id_in (rowid r)) answer s.0 s.1) (rw named at tie))))
+    where
+      exact_id : (r : Row) (n : ℤ) → rowid r ≡ Int n → rowid r ≡ Int (id_in (rowid r))
+      exact_id r n is = rw is refl
 
   edited_is : edited db edit ≡ map f (changed test change xs)
   edited_is = updated it answer asked fresh
@@ -140,7 +148,7 @@ module _ {X : Type 0} {f : X → Row} {id : X → ℤ} {db : Trees} {table : Tab
     becomes x = if test x then change x else x
 
     pair : (x : X) → Twins desk_schema table (f x) (f (becomes x))
-    pair x = search (rules, arith, all_from, agrees_itself)
+    pair x = search (rules, arith, twin_self)
 
     twins : AreTwins desk_schema table db next
     twins = record { before = before; after = after; keys = serves }
@@ -167,11 +175,17 @@ module _ {X : Type 0} {f : X → Row} {id : X → ℤ} {db : Trees} {table : Tab
           | inr held ↦ or_right _ _ (held_stays desk_schema db next table listed desk_apart others twins t ref was.0 row known of agrees (parent_key desk_schema.tables ref) refl held)
         ])
 
+  fit_news : (r : Row) → Has edit.news r → IsFit table db r
+  fit_news r there = let x = from_news r there in subst (IsFit table db) (sym x.3) (fit x.0 x.1 x.2)
+
+  referred : (news gone : Bool) → ((not news || list_all (is_key_of desk_schema) table.references)
+      && (not gone || list_all (λ (t : Table). list_all (is_key_if_to desk_schema table) t.references) desk_schema.tables)) ≡ true
+  referred news gone = and_from _ _ (or_right (not news) _ owns) (or_right (not gone) _ serves)
+
   as_were : (next : Trees) → Lands db edit next → (t : Table) → Has desk_schema.tables t → t.tree ≢ table.tree → next t.tree ≡ db t.tree
   as_were next made t = all_has (λ (u : Table). u.tree ≢ table.tree → next u.tree ≡ db u.tree) desk_schema.tables t made.tables
 
   pub update_safe : IsSafe db edit
-  update_safe = edit_safe db edit (λ r there. let x = from_news r there in subst (IsFit table db) (sym x.3) (fit x.0 x.1 x.2)) fresh
-      (and_from _ _ (or_right (not (nat_lt 0 (length edit.news))) _ owns) (or_right (not (nat_lt 0 (length edit.gone))) _ serves))
+  update_safe = edit_safe db edit fit_news fresh (referred (nat_lt 0 (length edit.news)) (nat_lt 0 (length edit.gone)))
       (λ next made. unique_stays desk_schema db next table listed desk_apart (as_were next made) (twins next made.rows (as_were next made)) (obeys.rules Unique))
       (λ next made. refers_next next made.rows (as_were next made))

@@ -1,12 +1,16 @@
 -- The statements that update rows. For the functions that update.
 use Rattle.std.proofs.Common.{to_z, of_z, w64, ◌≡◌, ◌<◌, ◌≤◌, ◌^◌, ◌+◌, ◌-◌, ◌-ℤ◌, neg_ℤ, ℕ, ℤ, pos, [], ◌∷◌, length, inl, inr, true, ◌&&◌, eqb-true, refl, ◌∙◌, arith, rules}
-use Rattle.std.{specs.Prelude.⊤, proofs.lemmas.Int.ints, proofs.lemmas.Bool.and_parts, proofs.lemmas.Bool.and_from}
+use Rattle.std.specs.Prelude.{⊤}
+use Rattle.std.proofs.lemmas.Int.{ints}
+use Rattle.std.proofs.lemmas.Bool.{and_parts, and_from}
+use Rattle.std.proofs.lemmas.Bool.Decides.{nat_tests}
 use Rattle.sqlite.specs.declared.types.Value.TheVariants.{Int, Text}
 use Rattle.sqlite.specs.Ops.{binary, fits_i64}
-use Rattle.sqlite.specs.Tree.{Trees}
+use Rattle.sqlite_sql.specs.declared.ops.BinaryOp.TheVariants.{Arith}
+use Rattle.sqlite_sql.specs.declared.ops.ArithOp.TheVariants.{Sub}
 use Rattle.sqlite.specs.Order.{Row, value_cmp}
+use Rattle.sqlite.specs.Tree.{Trees}
 use Rattle.sqlite.specs.Listing.{understood}
-use Rattle.sqlite_sql.specs.declared.ops.{BinaryOp.TheVariants.Arith, ArithOp.TheVariants.Sub}
 use Rattle.sqlite_schema.specs.declared.schema.Constraint.TheVariants.{Check}
 use Rattle.sqlite_schema.specs.Rules.{Obeys}
 use Rattle.sqlite_rules.specs.Lists.{Has}
@@ -17,8 +21,8 @@ use Rattle.desk_sql.specs.Schema.{desk_schema, meta_at, stock_at, journey_at, st
 use Rattle.desk_sql.specs.Lists.{numbered_row, changed}
 use Rattle.desk_sql.specs.Rows.{whole, Tables, MetaRow, meta_row, StockRow, stock_columns, JourneyRow, journey_row, StepRow, step_columns}
 use Rattle.desk_sql.specs.FoundRows.{is_numbered}
-use Rattle.desk_sql.specs.Stock.{is_within, HaveFree, HaveRoom, takes_nights, gives_nights}
 use Rattle.desk_sql.specs.Changes.{counts, moves_journey, with_cursor, marks_step, is_option, with_taken}
+use Rattle.desk_sql.specs.Stock.{is_within, HaveFree, HaveRoom, takes_nights, gives_nights}
 use Rattle.desk_sql.specs.Writable.{HasRowids, IsShort, MayMove, MayMarkStep, AreShortNights, MayTakeNights, MayGiveNights}
 use Rattle.desk_sql.specs.Texts.{update_meta_text, move_journey_text, mark_step_text, shift_nights_text}
 use Rattle.desk_sql.specs.Meanings.{update_meta_query, move_journey_query, mark_step_query, shift_nights_query}
@@ -28,12 +32,12 @@ use Rattle.desk_sql.proofs.Effects.{Effect}
 use Rattle.desk_sql.proofs.Inserting.{cast_int, meta_one}
 use Rattle.desk_sql.proofs.NewRow.{IsFit}
 use Rattle.desk_sql.proofs.Places.{chosen, own}
+use Rattle.desk_sql.proofs.Places
 use Rattle.desk_sql.proofs.Reading.{passes}
 use Rattle.desk_sql.proofs.Storing.{storable, held_from, fits_whole, is_bit, bit_holds, range_holds}
 use Rattle.desk_sql.proofs.Testing.{eq_whole, eq_text, ge_whole, le_whole, and_true}
-use Rattle.desk_sql.proofs.Writing.{cast_null}
 use Rattle.desk_sql.proofs.UpdateReasons.{SaysUpdate, changes_rows, twin_four, low_fits, stock_fit, kept_kind, allotted}
-use Rattle.desk_sql.proofs.Places
+use Rattle.desk_sql.proofs.Writing.{cast_null}
 
 -- Numbers of meta.
 
@@ -45,11 +49,14 @@ pub meta_passes : (params : Row) (m : MetaRow) → passes update_meta_query.filt
 unfolding binary value_cmp lib.Ieee.is_nan lib.Ieee.lt
 meta_passes params m = refl
 
-pub counts_meta : (m : MetaRow) → Effect update_meta_text (meta_params m) (λ _. ⊤) (counts m) (λ _. ⊤) (λ _. ⊤) (λ _. ⊤) (λ n. n)
+meta_says : (m : MetaRow) → SaysUpdate update_meta_text 0 0 update_meta_query.filter update_meta_query.project (meta_params m)
 unfolding understood everything
+meta_says m = record { means = λ _. record { is = refl; plain = (refl, refl) }; whole = λ _. refl; types = λ _. refl }
+
+pub counts_meta : (m : MetaRow) → Effect update_meta_text (meta_params m) (λ _. ⊤) (counts m) (λ _. ⊤) (λ _. ⊤) (λ _. ⊤) (λ n. n)
 counts_meta m =
     changes_rows (own (λ (x : MetaRow). 1) meta_row (λ _. refl)) Places.meta (inr (refl, (refl, (refl, (refl, (refl, tt))))))
-    update_meta_query.filter update_meta_query.project (grind arith) (λ _. true) (λ _. m) (meta_passes (meta_params m)) (λ _. refl) (λ _. refl)
+    update_meta_query.filter update_meta_query.project (meta_says m) (λ _. true) (λ _. m) (meta_passes (meta_params m)) (λ _. refl) (λ _. refl)
     (λ _. ⊤) (λ _. ⊤) (λ _. ⊤) (λ t any. any) (λ t any x there is. simp (cast_int, cast_null)) (λ db t room any obeys x there row is. record {
       typed = refl;
       present = refl;
@@ -157,14 +164,23 @@ shifts w by to Seen Fits fits_seen sub_is short under =
     (all_has (λ (s : StockRow). is_within w s ≡ true → IsShort (length s.supplier + length s.product)) t.stock p.1 (short t fits) there is))
     (λ p. twin_four (stock_at 1) (numbered_row stock_columns p) (numbered_row stock_columns (p.0, with_free to p.1)) refl refl refl refl refl tt)
 
+fits : (n : ℕ) → n < 2 ^ 63 → fits_i64 (pos n) ≡ true
+fits n low = grind (arith, ints, nat_tests)
+
+int_minus : (a b : ℕ) → b ≤ a → pos a -ℤ pos b ≡ pos (a - b)
+int_minus a b low = omega (arith, ints)
+
+int_plus : (a b : ℕ) → pos a -ℤ neg_ℤ (pos b) ≡ pos (a + b)
+int_plus a b = omega (arith, ints)
+
 -- the free places after places are taken or given back
 pub sub_fewer : (a b : ℕ) → b ≤ a → a < 2 ^ 63 → binary (Arith Sub) (whole a) (whole b) ≡ whole (a - b)
 unfolding binary
-sub_fewer a b low high = let less : pos a -ℤ pos b ≡ pos (a - b) = omega (arith, ints) in rw (less, fits_whole (a - b) (omega arith)) refl
+sub_fewer a b low high = rw (int_minus a b low, fits (a - b) (omega arith)) refl
 
 sub_more : (a b : ℕ) → a + b < 2 ^ 63 → binary (Arith Sub) (whole a) (Int (neg_ℤ (pos b))) ≡ whole (a + b)
 unfolding binary
-sub_more a b high = let more : pos a -ℤ neg_ℤ (pos b) ≡ pos (a + b) = omega (arith, ints) in rw (more, fits_whole (a + b) high) refl
+sub_more a b high = rw (int_plus a b, fits (a + b) high) refl
 
 pub takes_places : (w : NightRange) (count : ℕ)
     → Effect shift_nights_text (shift_params w (pos count)) (HaveFree w count) (takes_nights w count) (HasRowids 0) (MayTakeNights w count) (HaveFree w count) (λ n. n)

@@ -1,8 +1,10 @@
 -- Why a text that creates a table fails: out of memory, or the disk failed. No rule refuses a text whose names are new and which the
 -- list of objects can hold. For `founding`, and for the migration of older tables.
-use Rattle.std.proofs.Common.{◌≡◌, ◌⊎◌, inl, inr, ◌<◌, ◌≤◌, ◌+◌, ◌*◌, ◌∙◌, ℕ, zero, suc, List, [], ◌∷◌, length, codes, Option, None, Ok, Err, Bool, true, false, not, ◌==◌, eqb-true, nat_lt, IsTrue, IsUtf8, IsAscii, refl, subst, MutBor, arith, rules}
+use Rattle.std.proofs.Common.{◌≡◌, ◌⊎◌, inl, inr, ◌<◌, ◌≤◌, ◌+◌, ◌*◌, ◌^◌, ◌∙◌, ℕ, zero, suc, List, [], ◌∷◌, length, codes, Option, None, Ok, Err, Bool, true, false, not, ◌==◌, eqb-true, nat_lt, IsTrue, IsUtf8, IsAscii, refl, subst, MutBor, arith, rules}
 use Rattle.std.specs.List.{AllByRecursion, list_all}
-use Rattle.std.proofs.lemmas.{Bool.and_parts, Bool.not-true, Bool.Decides.nat_tests, Str.IsUtf8-from_ascii}
+use Rattle.std.proofs.lemmas.Bool.{and_parts, not-true}
+use Rattle.std.proofs.lemmas.Bool.Decides.{nat_tests}
+use Rattle.std.proofs.lemmas.Str.{IsUtf8-from_ascii}
 use Rattle.sqlite_value.specs.declared.value.Value.TheVariants.{Text}
 use Rattle.sqlite_value.specs.Order.{value_cmp}
 use Rattle.sqlite_trees.specs.Sound.{fits_kind, is_free_name, same_name, begins}
@@ -10,14 +12,17 @@ use Rattle.sqlite_schema.specs.declared.schema.Index.{Index}
 use Rattle.sqlite_schema.specs.declared.schema.Schema.{Schema}
 use Rattle.sqlite_schema.specs.Rules.{table_reals, index_reals}
 use Rattle.sqlite_rules.proofs.ListLemmas.{all_from, test_has}
+use Rattle.sqlite_catalog.specs.declared.error.Refusal.{Refusal}
 use Rattle.sqlite_catalog.specs.Listing.{is_formed, is_fit}
+use Rattle.sqlite_catalog.specs.Calls.{RefusesTable}
 use Rattle.sqlite.specs.Table.{Table}
+use Rattle.sqlite.specs.Tree.{Trees}
 use Rattle.sqlite.specs.Command.TheVariants.{CreateTable}
 use Rattle.sqlite.specs.Compile.{table_defined_by}
+use Rattle.sqlite.specs.Change.{created, next_tree, is_used, is_reserved, automatics}
 use Rattle.sqlite.specs.Rows.{Then}
 use Rattle.sqlite.specs.Effect.{IsDatabase}
 use Rattle.sqlite.specs.Store.{Ghosts}
-use Rattle.sqlite.specs.Change.{created, next_tree, is_used, is_reserved, automatics}
 use Rattle.sqlite.specs.Held.{Held, state}
 use Rattle.sqlite.specs.Does.{Does, Defines, MakesTable, MakesSequence, lacks_sequence}
 use Rattle.sqlite.specs.declared.error.Error.{Error}
@@ -63,6 +68,9 @@ pub record IsNewTable (schema : Schema) (sql : List ℕ) (table : Table) : Type 
 under : (a b : ℕ) → nat_lt a b ≡ true → a < b
 under a b less = grind (arith, nat_tests)
 
+no_reals : (n : ℕ) → n ≡ 0 → 2 ^ 64 ≤ n → ⊥
+no_reals n none big = omega (arith, none, big)
+
 ascii : (bytes : List ℕ) → is_ascii bytes ≡ true → IsAscii bytes
 ascii [] all i = omega arith
 ascii (b ∷ bytes) all zero = under b 128 (and_parts (nat_lt b 128) (is_ascii bytes) all).0
@@ -76,8 +84,20 @@ module _ (schema : Schema) (sql : List ℕ) (table : Table) (it : IsNewTable sch
   each : AllByRecursion (λ b. b ≡ true) (tests_of schema sql table)
   each = all_from (λ b. b ≡ true) (tests_of schema sql table) (λ b there. test_has (λ b. b) (tests_of schema sql table) b it.tests there)
 
+  -- the text defines no other table
+  only : (made : Table) → table_defined_by sql ≡ Ok made → made ≡ table
+  only made defined = search (rules, arith)
+
+  -- no rule refuses it
+  unrefused : (why : Refusal) → ¬ RefusesTable schema sql why
+  unrefused why wrong = let known = each in search (rules, arith, only, test_has, not-true, eqb-true, as_text, under, no_reals)
+
+  -- and its row fits the list of objects, whatever the trees are
+  unstopped : (db : Trees) (stop : Option Error) → ¬ MakesTable sql (record { schema = schema; trees = db }) (Err stop)
+  unstopped db stop x = let known = each in search (rules, arith, under, only, not-true, as_text, unrefused)
+
   goes : (old : State) (stop : Option Error) → ¬ Defines (mode_of old) (Then (MakesTable sql (seen_with schema old)) MakesSequence) (Err stop)
-  goes old stop x = let known = each in search (rules, arith, under, as_text, test_has, eqb-true, not-true, gives_on)
+  goes old stop x = let known = each in search (rules, arith, unstopped, only, not-true, gives_on)
 
   -- so it fails out of memory, or where the disk failed or refused
   pub create_reason : (old new : State) (e : Error) → IsUp old → old.now.schema ≡ schema → ExecutesInside 0 sql [] old new (Err e) → HasReason old new e

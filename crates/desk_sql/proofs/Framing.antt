@@ -1,5 +1,5 @@
 -- An edit of one table leaves all other tables as they are. For the lemmas of each statement that writes.
-use Rattle.std.proofs.Common.{◌≡◌, eqb-true, ℕ, List, IsTrue, arith, rules}
+use Rattle.std.proofs.Common.{◌≡◌, ◌≢◌, eqb-true, ℕ, List, IsTrue, arith, rules}
 use Rattle.std.proofs.lemmas.Bool.{eqb-false}
 use Rattle.sqlite.specs.Order.{Row}
 use Rattle.sqlite.specs.Tree.{Trees, with_tree}
@@ -20,13 +20,25 @@ pub shows_same : (f g : Trees) (t : Tables) → f 0 ≡ g 0 → f 1 ≡ g 1 → 
 shows_same f g t m s b j p a e k it = search (rules, arith)
 
 module _ (old new : State) (edit : Edit) (it : Edits old new edit) where
+  abbrev next : Trees
+  next = new.now.trees
+
   abbrev db : Trees
   db = old.now.trees
+
+  -- each tree is as it was, except that of the edited table
+  tree_is : (t : ℕ) (rows : List Row) → edited db edit ≡ rows → (t ≢ edit.table.tree → next t ≡ db t)
+      → next t ≡ with_tree db edit.table.tree rows t
+  tree_is t rows is other = search (rules, arith, eqb-true, eqb-false)
+
+  shows_next : (rows : List Row) (after : Tables) → edited db edit ≡ rows → Shows (with_tree db edit.table.tree rows) after
+      → Shows next after
+  shows_next rows after is = search (rules, arith, shows_same, tree_is)
 
   -- of all tables, just the edited one has these rows
   pub makes_at : (tree : ℕ) (rows : List Row) (after : Tables) → edit.table.tree ≡ tree → edited db edit ≡ rows
       → Shows (with_tree db tree rows) after → Makes old new after
-  makes_at tree rows after at is shown = grind (arith, shows_same, eqb-true, eqb-false)
+  makes_at tree rows after at is shown = grind (arith, shows_next)
 
 -- the items have other rows
 pub with_entries : (db : Trees) (t : Tables) → Shows db t → (rows : List Row) (xs : List EntryRow)

@@ -5,19 +5,19 @@ use Rattle.std.proofs.lemmas.Bool.{and_parts, and_from, or_cases, or_left, or_ri
 use Rattle.sqlite.specs.Order.{Row}
 use Rattle.sqlite.specs.Table.{Table}
 use Rattle.sqlite_trees.specs.Tree.{Trees, with_tree}
-use Rattle.sqlite_schema.specs.declared.schema.Constraint.TheVariants.{Unique}
+use Rattle.sqlite_schema.specs.declared.schema.Constraint.TheVariants.{Datatype, NotNull, Check, PrimaryKey, Unique, ForeignKey}
 use Rattle.sqlite_schema.specs.declared.schema.Keys.TheVariants.{Enforced}
-use Rattle.sqlite_schema.specs.declared.schema.Index.{Index}
 use Rattle.sqlite_schema.specs.declared.schema.Reference.{Reference}
-use Rattle.sqlite_schema.specs.Rules.{guards, clashes, is_key_of, is_unique_key, ParentKey, parent_key, agree, Keeps, Obeys}
+use Rattle.sqlite_schema.specs.declared.schema.Index.{Index}
+use Rattle.sqlite_schema.specs.Rules.{guards, clashes, is_key_of, is_key_if_to, is_unique_key, ParentKey, parent_key, agree, Keeps, Obeys}
 use Rattle.sqlite_rules.specs.declared.error.Refusal.{Refusal}
-use Rattle.sqlite_rules.specs.Edit.{Edit, edited, IsRefused, is_referred}
 use Rattle.sqlite_rules.specs.declared.error.Refusal.TheVariants.{Violates, BadReference}
+use Rattle.sqlite_rules.specs.Edit.{Edit, edited, IsRefused, is_referred}
 use Rattle.sqlite_rules.specs.Keys.{conflicts, aims, shares, AreConflicts}
-use Rattle.sqlite_rules.proofs.ListLemmas.{all_has, all_from, has_either, has_left, some_from, some_has, test_from, test_has}
-use Rattle.sqlite_rules.proofs.RuleLemmas.{keeps_at, keeps_from}
 use Rattle.sqlite_value.specs.Keys.{plain as plain_key}
+use Rattle.sqlite_rules.proofs.ListLemmas.{all_has, all_from, has_either, has_left, some_from, some_has, test_from, test_has}
 use Rattle.desk_sql.specs.Schema.{desk_schema, desk_with, IsExtra}
+use Rattle.sqlite_rules.proofs.RuleLemmas.{keeps_at, keeps_from}
 
 test_weaker : {X : Type 0} (p q : X → Bool) (xs : List X) → ((x : X) → p x ≡ true → q x ≡ true) → list_all p xs ≡ true → list_all q xs ≡ true
 test_weaker p q xs so all = test_from q xs (λ x there. so x (test_has p xs x all there))
@@ -51,8 +51,12 @@ module _ (extra : List Index) (are : AllByRecursion IsExtra extra) where
   }
     where
       rules : (rule : _) → Keeps rule desk_schema db
+      rules Datatype = it.rules Datatype
+      rules NotNull = it.rules NotNull
+      rules Check = it.rules Check
+      rules PrimaryKey = it.rules PrimaryKey
       rules Unique = unique_fewer db (it.rules Unique)
-      rules rule = it.rules rule
+      rules ForeignKey = it.rules ForeignKey
 
   -- References.
 
@@ -66,8 +70,11 @@ module _ (extra : List Index) (are : AllByRecursion IsExtra extra) where
           → is_unique_key (desk_with extra).indexes width key ≡ true
       found_more width key it = search (rules, arith, and_parts, and_from, either_more, some_has, some_from, has_left)
 
+  to_more : (table : Table) (ref : Reference) → is_key_if_to desk_schema table ref ≡ true → is_key_if_to (desk_with extra) table ref ≡ true
+  to_more table ref it = either_more _ (is_key_of desk_schema ref) (is_key_of (desk_with extra) ref) (key_more ref) it
+
   referred_more : (edit : Edit) → is_referred desk_schema Enforced edit ≡ true → is_referred (desk_with extra) Enforced edit ≡ true
-  referred_more edit it = search (rules, arith, and_parts, and_from, either_more, test_weaker, key_more)
+  referred_more edit it = search (rules, arith, and_parts, and_from, either_more, test_weaker, key_more, to_more)
 
   -- an edit that is refused is refused without these indexes too
   pub refused_bare : (db : Trees) (edit : Edit) (why : Refusal) → IsRefused (desk_with extra) Enforced db edit why

@@ -1,13 +1,15 @@
 -- The effect of an INSERT of one row, from what its text means and what its row obeys. For each statement that inserts.
 use Rattle.std.proofs.Common.{◌≡◌, ◌<◌, ◌^◌, ℕ, ℤ, suc, pos, List, [], ◌∷◌, ◌++◌, Ok, true, false, refl, sym, subst, arith}
-use Rattle.std.{specs.Prelude.⊤, specs.List.AllByRecursion, specs.List.list_all, proofs.lemmas.Bool.and_from}
+use Rattle.std.specs.Prelude.{⊤}
+use Rattle.std.specs.List.{AllByRecursion, list_all}
+use Rattle.std.proofs.lemmas.Bool.{and_from}
 use Rattle.sqlite.specs.declared.types.Value.TheVariants.{Int}
 use Rattle.sqlite.specs.Order.{Row}
 use Rattle.sqlite.specs.Ops.{fits_i64}
 use Rattle.sqlite.specs.Table.{Table}
 use Rattle.sqlite.specs.Term.{Term}
-use Rattle.sqlite.specs.Edit.{next_rowid, is_taken}
 use Rattle.sqlite.specs.Tree.{Trees, rowid, put_row, IsTable}
+use Rattle.sqlite.specs.Edit.{next_rowid, is_taken}
 use Rattle.sqlite.specs.State.{State, ExecutesInside}
 use Rattle.sqlite_schema.specs.declared.schema.Constraint.TheVariants.{Datatype, NotNull, Check}
 use Rattle.sqlite_schema.specs.Rules.{passes, is_key_of, Obeys}
@@ -20,15 +22,15 @@ use Rattle.desk_sql.specs.Calls.{Sees, MayRun}
 use Rattle.desk_sql.specs.Writable.{AreLow, HasRowids}
 use Rattle.desk_sql.proofs.Meaning.{insert}
 use Rattle.desk_sql.proofs.Refusing.{write_reason, insert_goes, IsSafe}
-use Rattle.desk_sql.proofs.Framing.{ready_of, makes_at}
 use Rattle.desk_sql.proofs.NewRow.{AreOther, HasParents, put_edit, put_safe}
 use Rattle.desk_sql.proofs.Writing.{inserts, source_edit, Edits}
+use Rattle.desk_sql.proofs.Framing.{ready_of, makes_at}
 use Rattle.desk_sql.proofs.Keyed.{appended, numbered_last}
 use Rattle.desk_sql.proofs.Indexes.{obeys_bare}
-use Rattle.desk_sql.proofs.Places.{Place}
-use Rattle.desk_sql.proofs.Effects.{Says, Effect}
 use Rattle.desk_sql.proofs.Storing.{NeverOversized, next_fits, fits_whole, chosen_free, number_free, table_of, table_numbered}
 use Rattle.desk_sql.proofs.Rowids.{IsOwn, rowids_fewer, low_put, rowids_same, rowids_kept}
+use Rattle.desk_sql.proofs.Places.{Place}
+use Rattle.desk_sql.proofs.Effects.{Says, Effect}
 
 -- the trees obey the desk's schema
 pub obeys_desk : (s : State) (t : Tables) → Sees s t → Obeys desk_schema s.now.trees

@@ -1,43 +1,47 @@
 -- The statements that insert a row. For the functions that insert.
-use Rattle.std.proofs.Common.{◌≡◌, ◌<◌, ◌≤◌, ◌^◌, ◌==◌, ℕ, ℤ, suc, [], ◌∷◌, true, false, refl, sym, subst, arith, rules}
+use Rattle.std.proofs.Common.{◌≡◌, ◌<◌, ◌≤◌, ◌^◌, ◌==◌, ℕ, ℤ, suc, [], ◌∷◌, Bool, true, false, cond, refl, sym, subst, arith, rules}
 use Rattle.std.specs.Prelude.{⊤}
 use Rattle.std.specs.List.{AllByRecursion}
-use Rattle.sqlite.specs.declared.types.Value.TheVariants.{Int, Text, Blob}
+use Rattle.sqlite.specs.declared.types.Value.TheVariants.{Null, Int, Text, Blob}
 use Rattle.sqlite.specs.Kind.TheVariants.{Integer}
 use Rattle.sqlite.specs.Cast.{cast}
 use Rattle.sqlite.specs.Ops.{unary, binary}
 use Rattle.sqlite.specs.Order.{Row}
-use Rattle.sqlite.specs.Listing.{understood}
 use Rattle.sqlite.specs.Edit.{next_rowid}
+use Rattle.sqlite.specs.Listing.{understood}
 use Rattle.sqlite_schema.specs.declared.schema.Constraint.TheVariants.{Check}
 use Rattle.sqlite_schema.specs.Rules.{passes}
 use Rattle.sqlite_tied.specs.Compute.{everything}
 use Rattle.desk_sql.specs.Schema.{desk_schema, meta_at, batch_at, journey_at, step_at, answer_at, entry2_at, mark_at}
-use Rattle.desk_sql.specs.Rows.{whole, MetaRow, meta_row, BatchRow, batch_columns, JourneyRow, journey_row, StepRow, step_columns, AnswerRow, answer_columns, entry_row, mark_columns}
+use Rattle.desk_sql.specs.Rows.{whole, MetaRow, meta_row, BatchRow, batch_columns, JourneyRow, journey_row, StepRow, step_columns, AnswerRow, answer_columns, mark_columns}
 use Rattle.desk_sql.specs.Changes.{LacksMeta, at_first, adds_meta, adds_batch, AreJourneysBelow, adds_journey, is_option, adds_step, AreItemsBelow, adds_item, adds_answer, is_mark_at, adds_mark}
 use Rattle.desk_sql.specs.Writable.{HasRowids, MayKeep, MayAddBatch, MayAddJourney, MayAddStep, MayAddItem, MayAddMark}
 use Rattle.desk_sql.specs.FoundRows.{is_for, is_named, item_of, mark_at_pos}
 use Rattle.desk_sql.specs.declared.journeys.ItemFound.{ItemFound}
-use Rattle.desk_sql.specs.Lists.{numbered_row}
-use Rattle.desk_sql.proofs.Effects.{Effect}
-use Rattle.desk_sql.proofs.InsertReasons.{SaysInsert, adds_next, adds_last}
-use Rattle.desk_sql.proofs.Testing.{and_true}
-use Rattle.desk_sql.proofs.Storing.{storable, held_from, rows_all, numbered_all, key_text, key_whole, parent_at, bit_holds, range_holds}
-use Rattle.desk_sql.proofs.Writing.{cast_null, either}
 use Rattle.desk_sql.specs.Texts
 use Rattle.desk_sql.specs.Meanings
+use Rattle.desk_sql.proofs.Effects.{Effect}
+use Rattle.desk_sql.proofs.InsertReasons.{SaysInsert, adds_next, adds_last}
 use Rattle.desk_sql.proofs.Places
+use Rattle.desk_sql.proofs.Storing.{storable, held_from, rows_all, numbered_all, key_text, key_whole, parent_first, parent_second, bit_holds, range_holds}
+use Rattle.desk_sql.proofs.Testing.{and_true}
+use Rattle.desk_sql.proofs.Writing.{cast_null}
+
+same_int : (b : Bool) (n : ℤ) → cond b (Int n) (Int n) ≡ Int n
+same_int b n = search (rules, arith)
 
 -- an integer is stored as it is
 pub cast_int : (n : ℤ) → cast Integer (Int n) ≡ Int n
 unfolding unary
-cast_int n = either _ (Int n)
+cast_int n = same_int _ n
 
 -- Replies.
 
+abbrev answer_params : AnswerRow → Row
+answer_params a = Text a.agent ∷ Text a.mark ∷ Blob a.ask ∷ Text a.reply ∷ []
+
 pub keeps_answer : (a : AnswerRow)
-    → Effect Texts.insert_answer_text (Text a.agent ∷ Text a.mark ∷ Blob a.ask ∷ Text a.reply ∷ []) (λ _. ⊤) (adds_answer a) (HasRowids 1) (MayKeep a)
-    (λ _. ⊤) suc
+    → Effect Texts.insert_answer_text (answer_params a) (λ _. ⊤) (adds_answer a) (HasRowids 1) (MayKeep a) (λ _. ⊤) suc
 unfolding understood everything
 keeps_answer a =
     adds_next Places.answers (λ n db has. has.answer) {terms = Meanings.insert_answer_terms} {width = 5} (grind arith) a
@@ -55,9 +59,11 @@ keeps_answer a =
 
 -- Batches.
 
+abbrev batch_params : BatchRow → Row
+batch_params b = Text b.name ∷ whole b.num ∷ Blob b.content ∷ []
+
 pub loads_batch : (b : BatchRow)
-    → Effect Texts.insert_batch_text (Text b.name ∷ whole b.num ∷ Blob b.content ∷ []) (λ _. ⊤) (adds_batch b) (HasRowids 1) (MayAddBatch b) (λ _. ⊤)
-    suc
+    → Effect Texts.insert_batch_text (batch_params b) (λ _. ⊤) (adds_batch b) (HasRowids 1) (MayAddBatch b) (λ _. ⊤) suc
 unfolding understood everything
 loads_batch b =
     adds_next Places.batches (λ n db has. has.batch) {terms = Meanings.insert_batch_terms} {width = 4} (search rules) b
@@ -126,7 +132,7 @@ offers_step s =
             (λ p apart. simp key_whole (simp and_true apart)) fits.unplaced,
         tt,
       );
-      parents = (parent_at 1 db t s.journey (numbered_row step_columns (next_rowid (db 8), record s { taken = 0 })) refl shown fits.journey, tt);
+      parents = (parent_first db t s.journey (Int (next_rowid (db 8))) _ shown fits.journey, tt);
     })
 
 -- Items.
@@ -147,7 +153,7 @@ notes_item journey i small =
       alone = (refl, refl, rw (range_holds i.item 0 3 (omega arith) fits.kind) refl);
       storable = held_from (entry2_at 13) _ (storable _ _ refl refl (omega arith), omega arith) tt (storable _ _ refl refl (omega arith), tt);
       single = tt;
-      parents = (parent_at 2 db t journey (entry_row (item_of journey i)) refl shown fits.journey_is, tt);
+      parents = (parent_second db t journey (whole i.num) Null _ shown fits.journey_is, tt);
     })
 
 -- Save-points.
@@ -171,10 +177,17 @@ saves_mark journey at =
             (λ p apart. simp key_whole (simp and_true apart)) fits.unmarked,
         tt,
       );
-      parents = (parent_at 1 db t journey (numbered_row mark_columns (next_rowid (db 14), mark_at_pos journey at)) refl shown fits.journey_is, tt);
+      parents = (parent_first db t journey (Int (next_rowid (db 14))) _ shown fits.journey_is, tt);
     })
 
 -- The first row of meta.
+
+abbrev first_params : ℕ → Row
+first_params version = whole version ∷ []
+
+first_says : (version : ℕ) → SaysInsert Texts.insert_meta_text 0 Meanings.insert_meta_terms 5 (first_params version)
+unfolding understood everything
+first_says version = record { means = λ _. record { is = refl; plain = (refl, refl) }; whole = λ _. refl; types = λ _. refl }
 
 -- each row of meta has 1 in its first column
 pub meta_one : passes Check desk_schema (λ _. []) (meta_at 0) (meta_row (record { version = 0; events = 0; journeys = 0 })) ≡ true
@@ -182,11 +195,10 @@ unfolding binary Rattle.sqlite_value.specs.Order.value_cmp lib.Ieee.is_nan lib.I
 meta_one = refl
 
 pub founds_meta : (version : ℕ)
-    → Effect Texts.insert_meta_text (whole version ∷ []) LacksMeta (adds_meta (at_first version)) (λ _. ⊤) LacksMeta (λ _. ⊤) (λ n. n)
-unfolding understood everything
+    → Effect Texts.insert_meta_text (first_params version) LacksMeta (adds_meta (at_first version)) (λ _. ⊤) LacksMeta (λ _. ⊤) (λ n. n)
 founds_meta version =
-    adds_last Places.meta (λ _. refl) (refl, (refl, (refl, (refl, (refl, tt))))) {terms = Meanings.insert_meta_terms} {width = 5} (grind arith)
-    (at_first version) (omega arith) (λ db. simp (cast_int, cast_null)) LacksMeta LacksMeta (λ t none. none)
+    adds_last Places.meta (λ _. refl) (refl, (refl, (refl, (refl, (refl, tt))))) (first_says version) (at_first version) (omega arith)
+    (λ db. simp (cast_int, cast_null)) LacksMeta LacksMeta (λ t none. none)
     (λ t none. subst (AllByRecursion (λ (m : MetaRow). 1 < 1)) (sym none) tt) (λ db t fits shown. record {
       alone = (refl, refl, meta_one);
       storable = held_from (meta_at 0) _ (storable _ _ refl refl (omega arith), omega arith) tt tt;

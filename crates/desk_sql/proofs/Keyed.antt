@@ -1,13 +1,22 @@
 -- Tables as lists of values, each with its rowid, in ascending order of rowid. For the lemmas of each statement that writes.
-use Rattle.std.proofs.Common.{◌≡◌, ◌+ℤ◌, ◌<ℤ◌, ℤ, pos, fold, List, [], ◌∷◌, ◌++◌, map, Bool, true, Less, refl, sym, ap, ◌∙◌, arith, ℕ, ◌<◌, filter, rules, subst}
-use Rattle.std.{proofs.lemmas.Int.ints, proofs.lemmas.Bool.cases_Bool, specs.List.AllByRecursion, specs.Cmp.int_cmp_is, proofs.lemmas.List.map-append}
-use Rattle.sqlite_value.{specs.declared.value.Value.TheVariants.Int, proofs.OrderLemmas.value_cmp-Int}
+use Rattle.std.proofs.Common.{◌≡◌, ◌+ℤ◌, ◌<ℤ◌, ℤ, pos, fold, List, [], ◌∷◌, ◌++◌, map, Bool, true, if◌then◌else◌, Less, refl, sym, ap, ap₂, ◌∙◌, arith, ℕ, ◌<◌, filter, rules, subst}
+use Rattle.std.proofs.lemmas.Int.{ints}
+use Rattle.std.proofs.lemmas.Bool.{cases_Bool}
+use Rattle.std.specs.List.{AllByRecursion}
+use Rattle.std.specs.Cmp.{int_cmp_is}
+use Rattle.sqlite_value.specs.declared.value.Value.TheVariants.{Int}
+use Rattle.sqlite_value.proofs.OrderLemmas.{value_cmp-Int}
 use Rattle.sqlite.specs.Order.{Row, value_cmp}
 use Rattle.sqlite_trees.specs.Tree.{rowid, put_row, IsTable, IsAscending}
+use Rattle.sqlite_rules.specs.Lists.{Has}
+use Rattle.sqlite_rules.proofs.ProbeLemmas.{mapped_has}
+use Rattle.sqlite_rules.specs.Edit.{next_rowid, id_in}
 use Rattle.sqlite_trees.proofs.ListLemmas.{all_weaker, ascending-append, ascending-map, ascending_weaker, ascending-filter, filter-map}
-use Rattle.sqlite_rules.{specs.Lists.Has, proofs.ProbeLemmas.mapped_has, specs.Edit.next_rowid, specs.Edit.id_in}
 use Rattle.desk_sql.specs.Lists.{changed, numbered_row, IsTableOf, IsNumbered}
+use Rattle.std.proofs.lemmas.List.{map-append}
 use Rattle.desk_sql.specs.Rows.{whole}
+
+-- Tables as lists of values, each with its rowid, in ascending order of rowid.
 
 -- a smaller rowid comes first
 pub int_below : (a b : ℤ) → a <ℤ b → value_cmp (Int a) (Int b) ≡ Less
@@ -100,7 +109,10 @@ module _ {X : Type 0} where
   values_changed : (q : X → Bool) (h : X → X) (ps : List (ℤ × X))
       → map value_of (changed (λ p. q p.1) (λ p. (p.0, h p.1)) ps) ≡ changed q h (map value_of ps)
   values_changed q h [] = refl
-  values_changed q h (p ∷ ps) = search (rules, arith, cases_Bool, values_changed q h ps)
+  values_changed q h (p ∷ ps) = ap₂ ◌∷◌ (one (q p.1)) (values_changed q h ps)
+    where
+      one : (b : Bool) → value_of (if b then (p.0, h p.1) else p) ≡ (if b then h p.1 else p.1)
+      one b = search (rules, arith)
 
   -- a change leaves each row under its rowid
   pub replaced_values : (columns : X → Row) (rows new : List Row) (xs : List X) (q : X → Bool) (h : X → X)

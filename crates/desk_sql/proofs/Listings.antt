@@ -1,6 +1,8 @@
 -- The queries for the rows of a journey. For `find_items`, `find_marks`, `find_steps` and `find_options`.
 use Rattle.std.proofs.Common.{◌≡◌, ◌⊎◌, ℕ, ◌<◌, ◌≤◌, eqb-true, [], ◌∷◌, map, filter, false, Equal, is_lt, refl, ◌∙◌, arith, rules}
-use Rattle.std.{specs.Prelude.⊤, proofs.lemmas.Bool.and_parts, specs.Ordering.ordering_then}
+use Rattle.std.specs.Prelude.{⊤}
+use Rattle.std.proofs.lemmas.Bool.{and_parts}
+use Rattle.std.specs.Ordering.{ordering_then}
 use Rattle.sqlite.specs.declared.types.Value.TheVariants.{Text}
 use Rattle.sqlite.specs.Order.{column, value_cmp}
 use Rattle.sqlite.specs.Query.{Output}
@@ -18,8 +20,8 @@ use Rattle.desk_sql.specs.Meanings.{find_steps_query, find_steps_names, find_opt
 use Rattle.desk_sql.specs.declared.journeys.ItemFound.{ItemFound}
 use Rattle.desk_sql.proofs.Asking.{SaysQuery, FindsList, asks_chosen, asks_own, lists}
 use Rattle.desk_sql.proofs.OneList.{one_list}
-use Rattle.desk_sql.proofs.Reading.{passes}
 use Rattle.desk_sql.proofs.Ordered.{whole_then, whole_last}
+use Rattle.desk_sql.proofs.Reading.{passes}
 use Rattle.desk_sql.proofs.Testing.{eq_whole, gt_whole, and_true}
 
 -- Options of steps.
@@ -102,12 +104,17 @@ finds_items journey after =
 
 -- Save-points.
 
+abbrev mark_out : MarkRow → Output
+mark_out m = (whole m.pos ∷ [], whole m.pos ∷ [])
+
+marks_say : (journey : ℕ) → SaysQuery Two find_marks_text find_marks_query find_marks_names (whole journey ∷ [])
+unfolding understood everything
+marks_say journey = record { means = λ _. record { is = refl; plain = (refl, refl); unlisted = refl; selects = refl }; takes = λ _. record { whole = refl; typed = refl } }
+
 pub finds_marks : (journey : ℕ)
     → FindsList Two find_marks_text (whole journey ∷ []) whole (λ r. column r 0) (FindsMarks journey) Any (ShowsOne mark_shown (λ _. ⊤))
-unfolding understood everything
 finds_marks journey =
-    lists (asks_chosen {names = find_marks_names} 14 find_marks_query.filter find_marks_query.project find_marks_query.order (grind arith)
-    (λ _. refl) mark_columns (λ t. t.mark) (λ _ _ s. s.mark) (λ (m : MarkRow). (whole m.pos ∷ [], whole m.pos ∷ [])) (λ _. refl) (is_mark_of journey)
-    (λ p. and_true _ ∙ eq_whole p.1.journey journey)) (mark_at_pos journey) whole (λ r. column r 0)
+    lists (asks_chosen 14 find_marks_query.filter find_marks_query.project find_marks_query.order (marks_say journey) (λ _. refl) mark_columns (λ t. t.mark)
+    (λ _ _ s. s.mark) mark_out (λ _. refl) (is_mark_of journey) (λ p. and_true _ ∙ eq_whole p.1.journey journey)) (mark_at_pos journey) whole (λ r. column r 0)
     (λ t at m there shown. let passed = (has_filtered (is_mark_of journey) t.mark m there).1 in search (rules, arith, eqb-true))
     Any (ShowsOne mark_shown (λ _. ⊤)) (λ t any m there. (m, refl, tt)) IsByPosition (λ a b up. whole_last a.pos b.pos up)

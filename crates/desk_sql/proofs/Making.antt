@@ -1,20 +1,26 @@
 -- The effect of a text that creates a table, where no table has a row. For CreateReasons and `make_tables`.
-use Rattle.std.proofs.Common.{◌≡◌, ℕ, List, [], ◌∷◌, ◌++◌, true, false, if◌then◌else◌, None, Ok, Err, Result, OnOk, sym, ap, subst, ◌∙◌, arith, rules}
+use Rattle.std.proofs.Common.{◌≡◌, ℕ, List, [], ◌∷◌, ◌++◌, true, false, if◌then◌else◌, None, Ok, Err, Result, OnOk, sym, ap, subst, ◌∙◌, refl, arith, rules}
 use Rattle.std.specs.List.{AllByRecursion}
 use Rattle.sqlite.specs.Table.{Table}
+use Rattle.sqlite_schema.specs.declared.schema.Schema.{Schema}
 use Rattle.sqlite.specs.Command.TheVariants.{CreateTable}
 use Rattle.sqlite.specs.Compile.{table_defined_by}
 use Rattle.sqlite.specs.Change.{created, next_tree}
-use Rattle.sqlite.specs.Tree.{Trees}
 use Rattle.sqlite.specs.Does.{Tally, lacks_sequence}
 use Rattle.sqlite.specs.declared.error.Error.{Error}
 use Rattle.sqlite.specs.Effect.{Database, IsDatabase}
+use Rattle.sqlite.specs.Tree.{Trees}
 use Rattle.sqlite.specs.Listing.{understood}
 use Rattle.sqlite.specs.State.{State, Writes, ExecutesInside, Shows}
 use Rattle.sqlite.proofs.Callers.{IsPlain, command_of, statement_of, runs_as}
-use Rattle.sqlite_schema.specs.declared.schema.Schema.{Schema}
-use Rattle.desk_sql.{specs.Calls.MayBuild, specs.Calls.Builds, specs.Calls.IsEmptyWith, specs.Calls.Sees, specs.Rows.no_rows}
-use Rattle.desk_sql.{specs.Schema.entry2_at, specs.Schema.seven_schema, specs.Schema.desk_schema, proofs.Writing.went, proofs.Writing.same_value}
+use Rattle.desk_sql.specs.Calls.{MayBuild, Builds, IsEmptyWith, Sees}
+use Rattle.desk_sql.proofs.Writing.{went, same_value}
+use Rattle.desk_sql.specs.Schema.{entry2_at, seven_schema, desk_schema}
+use Rattle.sqlite.specs.Order.{Row}
+use Rattle.desk_sql.specs.Lists.{IsTableOf, IsNumbered}
+use Rattle.desk_sql.specs.Rows.{no_rows}
+
+-- The effect of CREATE TABLE, if no table has a row.
 
 still : (tables : List Table) (table : Table) (old new : Trees) → AllByRecursion (λ t. old t.tree ≡ []) tables → AllByRecursion (λ t. new t.tree ≡ old t.tree) tables → new table.tree ≡ []
     → AllByRecursion (λ t. new t.tree ≡ []) (tables ++ table ∷ [])
@@ -63,6 +69,12 @@ schema_8 = created seven_schema (entry2_at 0)
 pub then_build : (a b : State) (s : Schema) → Builds a b s → MayBuild s b
 then_build a b s it = record { inside = it.inside; empty = λ _. it.made }
 
+no_rows_of : {X : Type 0} (columns : X → Row) (rows : List Row) → rows ≡ [] → IsTableOf columns rows []
+no_rows_of columns rows none = record { numbered = []; values_are = refl; rows_are = none; rise = tt }
+
+no_values_of : {X : Type 0} (number : X → ℕ) (row_of : X → Row) (rows : List Row) → rows ≡ [] → IsNumbered number row_of rows []
+no_values_of number row_of rows none = record { rows_are = none; rise = tt }
+
 -- tables without rows show no rows
 pub sees_none : (s : State) → IsEmptyWith desk_schema s → IsDatabase s.now → Sees s no_rows
-sees_none s it sound = search (rules, arith)
+sees_none s it sound = search (rules, arith, no_values_of, no_rows_of)

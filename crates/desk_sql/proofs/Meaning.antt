@@ -1,11 +1,17 @@
 -- Each text has under the desk's schemas the meaning that Meanings gives it. For the lemmas of each statement.
 use Rattle.std.proofs.Common.{◌≡◌, ℕ, List, false}
-use Rattle.sqlite.{specs.Command.Command, specs.Command.TheVariants.Insert, specs.Source.TheVariants.Values, specs.Term.Term, specs.Query.Query}
-use Rattle.sqlite.{specs.Listing.understood, specs.Listing.reads_listing, proofs.Callers.IsPlain, proofs.Callers.command_of}
+use Rattle.sqlite.specs.Command.{Command}
+use Rattle.sqlite.specs.Command.TheVariants.{Insert}
+use Rattle.sqlite.specs.Source.TheVariants.{Values}
+use Rattle.sqlite.specs.Term.{Term}
+use Rattle.sqlite.specs.Query.{Query}
+use Rattle.sqlite.specs.Listing.{understood, reads_listing}
+use Rattle.sqlite.proofs.Callers.{IsPlain, command_of}
 use Rattle.desk_sql.specs.declared.versions.Version.{Version}
+use Rattle.sqlite_schema.specs.declared.schema.Index.{Index}
+use Rattle.sqlite_schema.specs.declared.schema.Schema.{Schema}
 use Rattle.desk_sql.specs.Schema.{desk_with, schema_with}
 use Rattle.desk_sql.specs.Queries.{IsSelect}
-use Rattle.sqlite_schema.specs.declared.schema.{Index.Index, Schema.Schema}
 use Rattle.desk_sql.specs.Meanings
 
 -- under this schema the text is this command, has no RETURNING and does not read the time

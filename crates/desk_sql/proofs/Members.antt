@@ -1,8 +1,11 @@
 -- Lists with the same elements. For the lemmas on lists.
 use Rattle.std.proofs.Common.{◌≡◌, inl, inr, List, [], ◌∷◌, refl, sym, ap₂, ◌∙◌, IsPermutation, subst}
-use Rattle.std.{specs.List.AllByRecursion, proofs.lemmas.List.Sorted.IsPermutation-sym}
-use Rattle.sqlite_rules.{specs.Lists.Has, proofs.ListLemmas.all_has, proofs.ListLemmas.all_from}
-use Rattle.sqlite_trees.{specs.Tree.IsAscending, proofs.ListLemmas.all-permutation}
+use Rattle.std.specs.List.{AllByRecursion}
+use Rattle.std.proofs.lemmas.List.Sorted.{IsPermutation-sym}
+use Rattle.sqlite_rules.specs.Lists.{Has}
+use Rattle.sqlite_rules.proofs.ListLemmas.{all_has, all_from}
+use Rattle.sqlite_trees.specs.Tree.{IsAscending}
+use Rattle.sqlite_trees.proofs.ListLemmas.{all-permutation}
 
 -- a permutation has no further elements
 pub permutation_from : {X : Type 0} (xs ys : List X) (x : X) → IsPermutation xs ys → Has ys x → Has xs x

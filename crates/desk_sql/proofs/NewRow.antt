@@ -1,26 +1,34 @@
 -- When the rules of SQL allow an edit: in general, and the insertion of rows. For the lemmas of each statement that writes.
-use Rattle.std.proofs.Common.{◌≡◌, ◌⊎◌, inl, inr, ℕ, ℤ, List, [], ◌∷◌, filter, Option, None, Some, Bool, true, false, not, ◌&&◌, refl, sym, ap, subst, ◌∙◌, arith, nat_lt, rules}
+use Rattle.std.proofs.Common.{◌≡◌, ◌⊎◌, inl, inr, ℕ, ℤ, List, [], ◌∷◌, filter, Option, None, Some, Bool, true, false, not, ◌&&◌, refl, sym, ap, subst, ◌∙◌, arith, nat_lt, ◌==◌, rules}
 use Rattle.std.specs.List.{AllByRecursion, list_all, list_any}
 use Rattle.std.proofs.lemmas.Bool.{cases_eq, and_parts, or_cases, or_left, or_right, false_from_ne_true, both_ways}
-use Rattle.std.proofs.lemmas.{Bool.Decides.nat_tests, Cmp.tied_itself}
-use Rattle.sqlite_value.{specs.declared.value.Value.TheVariants.Int, proofs.OrderLemmas.value_cmp_total}
+use Rattle.std.proofs.lemmas.Bool.Decides.{nat_tests}
+use Rattle.std.proofs.lemmas.Cmp.{tied_itself}
+use Rattle.sqlite_value.specs.declared.value.Value.TheVariants.{Int}
+use Rattle.sqlite_value.proofs.OrderLemmas.{value_cmp_total}
 use Rattle.sqlite_trees.specs.Tree.{Trees, rowid, with_tree, IsTable, IsAscending}
 use Rattle.sqlite_trees.specs.View.{is_int}
 use Rattle.sqlite_schema.specs.declared.schema.Among.TheVariants.{All}
+use Rattle.sqlite_schema.specs.declared.schema.Constraint.TheVariants.{Datatype, NotNull, Check, Unique, ForeignKey}
 use Rattle.sqlite_schema.specs.declared.schema.Keys.TheVariants.{Enforced}
 use Rattle.sqlite_schema.specs.declared.schema.Reference.{Reference}
-use Rattle.sqlite_schema.specs.declared.schema.Constraint.TheVariants.{Datatype, NotNull, Check, Unique, ForeignKey}
 use Rattle.sqlite_schema.specs.declared.schema.Index.{Index}
 use Rattle.sqlite_schema.specs.Rules.{passes, guards, agree, differ, clashes, has_parent, is_held, ParentKey, parent_key, Keeps, Refers, Obeys}
-use Rattle.sqlite_rules.{specs.declared.error.Refusal.Refusal, specs.Lists.Has, proofs.EditLemmas.turns, proofs.PlaceLemmas.named_parent}
+use Rattle.sqlite_rules.specs.declared.error.Refusal.{Refusal}
 use Rattle.sqlite_rules.specs.declared.error.Refusal.TheVariants.{Violates, Mismatch, NoRowid}
+use Rattle.sqlite_rules.specs.Lists.{Has}
 use Rattle.sqlite_rules.specs.Edit.{IsRefused, is_taken, are_fresh, is_referred, left_by, taken_by, id_in, Edit, edited}
 use Rattle.sqlite_rules.proofs.ListLemmas.{all_has, all_from, test_from, some_has, some_from, has_kept}
 use Rattle.sqlite_rules.proofs.RuleLemmas.{Turns, unique_kept, origin, refers_at, refers_from}
+use Rattle.sqlite_rules.proofs.EditLemmas.{turns}
+use Rattle.sqlite_rules.proofs.PlaceLemmas.{named_parent}
 use Rattle.sqlite.specs.Order.{Row}
 use Rattle.sqlite.specs.Ops.{binary, fits_i64}
 use Rattle.sqlite.specs.Table.{Table}
-use Rattle.desk_sql.{specs.Schema.desk_schema, proofs.Refusing.IsSafe, proofs.Storing.NeverOversized, proofs.Storing.alike, proofs.Writing.Lands}
+use Rattle.desk_sql.specs.Schema.{desk_schema}
+use Rattle.desk_sql.proofs.Refusing.{IsSafe}
+use Rattle.desk_sql.proofs.Storing.{NeverOversized}
+use Rattle.desk_sql.proofs.Writing.{Lands}
 
 -- The trees of the desk's tables are apart.
 
@@ -62,6 +70,9 @@ module _ (db : Trees) (edit : Edit) (fit : (r : Row) → Has edit.news r → IsF
   -- the trees with the new rows
   abbrev after : Trees
   after = with_tree db edit.table.tree (edited db edit)
+
+  alike : (n : ℕ) → (n == n) ≡ true
+  alike n = grind (arith, nat_tests)
 
   after_lands : Lands db edit after
   after_lands = search (rules, arith, alike, all_from)

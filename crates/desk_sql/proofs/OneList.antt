@@ -1,6 +1,8 @@
 -- A list whose numbers differ has just one ascending order. For Listings, and for lists of journeys and cells.
 use Rattle.std.proofs.Common.{◌≡◌, ℕ, ◌<◌, ◌≤◌, ◌==◌, List, [], ◌∷◌, Bool, false, arith, ne_eqb, IsPermutation, rules}
-use Rattle.std.proofs.lemmas.{Bool.eqb-false, Bool.Decides.nat_tests, Map.Keys.IsDistinct-IsPermutation}
+use Rattle.std.proofs.lemmas.Bool.{eqb-false}
+use Rattle.std.proofs.lemmas.Bool.Decides.{nat_tests}
+use Rattle.std.proofs.lemmas.Map.Keys.{IsDistinct-IsPermutation}
 use Rattle.std.specs.List.{IsDistinct}
 use Rattle.sqlite_rules.proofs.ListLemmas.{all_has, all_from}
 use Rattle.sqlite_trees.specs.Tree.{IsAscending}
@@ -13,6 +15,9 @@ module _ {X : Type 0} (key : X → ℕ) where
   -- two elements have the same number
   abbrev same_key : X → X → Bool
   same_key a b = key a == key b
+
+  flips : (a b : X) → same_key a b ≡ same_key b a
+  flips a b = grind (arith, nat_tests)
 
   -- in an ascending list no two have
   distinct : (xs : List X) → Rises xs → IsDistinct same_key xs
@@ -29,6 +34,5 @@ module _ {X : Type 0} (key : X → ℕ) where
   -- an ascending list is the only order of its elements that does not descend
   pub one_list : (xs ys : List X) → Rises xs → IsPermutation xs ys → IsAscending (λ a b. key a ≤ key b) ys → ys ≡ xs
   one_list xs ys rise same up =
-      one_order (λ (a b : X). key a < key b) (λ a b low high. omega (arith, low, high)) ys xs
-      (strict ys up (IsDistinct-IsPermutation same_key (λ a b. grind (arith, nat_tests)) xs ys same (distinct xs rise)))
+      one_order (λ (a b : X). key a < key b) (λ a b low high. omega (arith, low, high)) ys xs (strict ys up (IsDistinct-IsPermutation same_key flips xs ys same (distinct xs rise)))
       rise (λ x h. permutation_from xs ys x same h) (λ x h. permutation_to xs ys x same h)

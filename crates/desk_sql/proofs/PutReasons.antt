@@ -1,48 +1,52 @@
 -- The upsert of a cell: why it fails, and what it leaves. For `put_cell`.
 use Rattle.std.proofs.Common.{◌≡◌, ◌+◌, ℕ, ℤ, suc, List, [], ◌∷◌, ◌++◌, length, inl, inr, Option, None, Some, Err, Ok, true, false, refl, sym, ap, subst, ◌∙◌, arith, not, rules}
 use Rattle.std.specs.Prelude.{⊤}
-use Rattle.std.specs.List.{AllByRecursion}
 use Rattle.sqlite.specs.declared.types.Value.TheVariants.{Null, Int}
 use Rattle.sqlite.specs.declared.error.Error.{Error}
 use Rattle.sqlite.specs.Order.{Row}
 use Rattle.sqlite.specs.Tree.{Trees, rowid}
 use Rattle.sqlite.specs.Source.TheVariants.{Values}
 use Rattle.sqlite.specs.Edit.{Edit, edit_of, edited, next_rowid}
-use Rattle.sqlite.specs.Listing.{understood}
 use Rattle.sqlite.specs.Rowids.TheVariants.{Given}
+use Rattle.sqlite.specs.Rows.{Written, Sourced, Tries, TriesEach, Upserts, Judged, Puts, Updates, InsertsOr, nothing, shown, count_of}
+use Rattle.sqlite.specs.Listing.{understood}
 use Rattle.sqlite.specs.State.{State, ExecutesInside}
-use Rattle.sqlite.specs.Rows.{Written, Tries, TriesEach, Upserts, Puts, Updates, InsertsOr, nothing, shown, count_of}
 use Rattle.sqlite_schema.specs.declared.schema.Among.TheVariants.{All}
 use Rattle.sqlite_schema.specs.declared.command.Conflict.TheVariants.{Abort}
-use Rattle.sqlite_schema.specs.declared.schema.Index.{Index}
 use Rattle.sqlite_schema.specs.Rules.{Obeys, Refers, agree}
-use Rattle.sqlite_rules.{specs.Keys.AreConflicts, specs.Calls.ids_of, proofs.ListLemmas.all_has}
+use Rattle.sqlite_rules.specs.declared.error.Refusal.{Refusal}
+use Rattle.sqlite_rules.specs.Keys.{AreConflicts}
+use Rattle.sqlite_rules.specs.Steps.{IsJudged}
+use Rattle.sqlite_rules.specs.Calls.{ids_of}
+use Rattle.sqlite_rules.proofs.ListLemmas.{all_has}
 use Rattle.sqlite_typing.specs.Types.{accepts_terms, accepts_program}
 use Rattle.sqlite_tied.specs.Compute.{everything}
+use Rattle.std.specs.List.{AllByRecursion}
 use Rattle.desk_sql.specs.Schema.{desk_schema, desk_with, IsExtra, stock_at}
 use Rattle.desk_sql.specs.Lists.{numbered_row, IsTableOf}
-use Rattle.desk_sql.specs.Calls.{MayRun}
+use Rattle.sqlite_schema.specs.declared.schema.Index.{Index}
+use Rattle.desk_sql.proofs.Indexes.{are_conflicts}
 use Rattle.desk_sql.specs.Rows.{Tables, StockRow, stock_columns}
+use Rattle.desk_sql.specs.Calls.{MayRun}
+use Rattle.desk_sql.specs.Stock.{is_cell, with_places, put, puts_cell, AreApart}
 use Rattle.desk_sql.specs.Writable.{HasRowids, MayPut, IsShort}
 use Rattle.desk_sql.specs.Texts.{put_cell_text}
-use Rattle.desk_sql.specs.Stock.{is_cell, with_places, put, puts_cell, AreApart}
 use Rattle.desk_sql.specs.Meanings.{put_cell, put_cell_terms, put_cell_query}
-use Rattle.desk_sql.proofs.Indexes.{are_conflicts}
 use Rattle.desk_sql.proofs.Effects.{Says, Effect}
 use Rattle.desk_sql.proofs.Framing.{ready_of, makes_at}
-use Rattle.desk_sql.proofs.InsertReasons.{obeys_desk}
-use Rattle.desk_sql.proofs.Rowids.{low_fewer, rowids_fewer, rowids_kept}
-use Rattle.desk_sql.proofs.Keyed.{value_there}
-use Rattle.desk_sql.proofs.NewRow.{IsFit, put_safe}
-use Rattle.desk_sql.proofs.Writing.{same_value, task_for, Edits, target, tries_one, IsPut, upserts, put_tree, clauses}
-use Rattle.desk_sql.proofs.UpdateReasons.{stock_fit, kept_kind, twin_four, low_fits}
-use Rattle.desk_sql.proofs.Testing.{eq_whole, eq_text, and_true}
-use Rattle.desk_sql.proofs.ChangedRows.{update_safe}
-use Rattle.desk_sql.proofs.Putting.{put_params, source_is, puts_table, puts_low, Sets, conflict_at, sets, sets_at}
-use Rattle.desk_sql.proofs.Refusing.{write_reason, IsSafe, edit_goes, made_refers, rows_go, gives_on, answered}
-use Rattle.desk_sql.proofs.Storing.{range_holds, next_fits, chosen_free, table_of, rows_all}
 use Rattle.desk_sql.proofs.Places
+use Rattle.desk_sql.proofs.Rowids.{low_fewer, rowids_fewer, rowids_kept}
+use Rattle.desk_sql.proofs.Writing.{same_value, task_for, Edits, target, tries_one, IsPut, upserts, put_tree, clauses}
+use Rattle.desk_sql.proofs.InsertReasons.{obeys_desk}
+use Rattle.desk_sql.proofs.UpdateReasons.{stock_fit, kept_kind, twin_four, low_fits}
 use Rattle.sqlite_value.proofs.KeyLemmas.{first_key-plain}
+use Rattle.desk_sql.proofs.Keyed.{value_there}
+use Rattle.desk_sql.proofs.Testing.{eq_whole, eq_text, and_true}
+use Rattle.desk_sql.proofs.Putting.{put_params, source_is, puts_table, puts_low, Sets, conflict_at, sets, sets_at}
+use Rattle.desk_sql.proofs.Refusing.{write_reason, IsSafe, edit_goes, made_refers, rows_go, gives_on, answered, desk_at}
+use Rattle.desk_sql.proofs.NewRow.{IsFit, put_safe}
+use Rattle.desk_sql.proofs.ChangedRows.{update_safe}
+use Rattle.desk_sql.proofs.Storing.{range_holds, next_fits, chosen_free, table_of, rows_all}
 
 put_says : (s : StockRow) → Says put_cell_text put_cell (put_params s) (λ _. accepts_terms put_cell_terms (put_params s))
 unfolding understood everything
@@ -111,10 +115,17 @@ module _ (extra : List Index) (are : AllByRecursion IsExtra extra) (old : State)
   upserts_on stop ([], conflict, (x ∷ more, conflict_too, h)) = puts_on (are_conflicts extra are conflict) stop h
   upserts_on stop (there ∷ more, conflict, h) = changes_on there more (are_conflicts extra are conflict) stop h
 
+  judged_on : (verdict : Option Refusal) (stop : Option Error) → IsJudged (stock_at 1) new verdict
+      → ¬ Judged (task_for extra old (stock_at 1) (put_params s)) Abort (clauses put_cell_query) new db verdict (Err stop)
+  judged_on None stop judged h = upserts_on stop h
+  judged_on verdict stop judged h = let it = fit in search (rules, arith)
+
   tries_on : (stop : Option Error) → ¬ Tries (task_for extra old (stock_at 1) (put_params s)) Abort (clauses put_cell_query) new db (Err stop)
   tries_on stop (inl h) = let bad = sym (next_fits (db 1) rowids.stock) ∙ h.0 in cc
-  tries_on stop (inr (None, judged, h)) = upserts_on stop h
-  tries_on stop (inr (verdict, judged, h)) = let it = fit in search (rules, arith)
+  tries_on stop (inr h) = judged_on h.0 stop h.1 h.2
+
+  sourced_on : (stop : Option Error) → ¬ Sourced old.step_limit (desk_at extra old) (put_params s) (Values put_cell_terms 7) (Err stop)
+  sourced_on stop none = search (rules, arith, put_says)
 
   each_on : (stop : Option Error) → ¬ TriesEach (task_for extra old (stock_at 1) (put_params s)) Abort (clauses put_cell_query) ((Null ∷ put_params s) ∷ []) (count_of None) (nothing db) (Err stop)
   each_on stop (inl k) =
@@ -122,7 +133,7 @@ module _ (extra : List Index) (are : AllByRecursion IsExtra extra) (old : State)
   each_on stop (inr k) = gives_on stop k.2
 
   goes : (stop : Option Error) → ¬ InsertsOr (task_for extra old (stock_at 1) (put_params s)) Abort (clauses put_cell_query) (Values put_cell_terms 7) db (Err stop)
-  goes stop (inl (s, refused, is)) = search (rules, arith, put_says)
+  goes stop (inl k) = sourced_on k.0 k.1
   goes stop (inr (rows, given, inl k)) = gives_on k.0 k.1
   goes stop (inr (rows, given, inr (counted, known, inl k))) =
       let none : counted ≡ None = same_value known in

@@ -1,19 +1,24 @@
 -- The upsert of a cell. For `put_cell`.
 use Rattle.std.proofs.Common.{◌≡◌, ◌<◌, ◌^◌, inl, inr, ℕ, ℤ, suc, eq-eqb, eqb-true, List, [], ◌∷◌, ◌++◌, map, Bool, true, false, if◌then◌else◌, Some, is_eq, refl, sym, ap, ap₂, subst, ◌∙◌, arith, ◌⊎◌, int_cmp, rules}
 use Rattle.std.specs.List.{list_any, AllByRecursion}
-use Rattle.std.proofs.lemmas.{Int.ints, Slice.Eq.bytes_eq-Decides, Bool.cases_Bool, Bool.and_parts, Bool.and_from, Bool.false_from_ne_true}
+use Rattle.std.proofs.lemmas.Int.{ints}
+use Rattle.std.proofs.lemmas.Bool.{cases_Bool, and_parts, and_from, false_from_ne_true}
+use Rattle.std.proofs.lemmas.Slice.Eq.{bytes_eq-Decides}
 use Rattle.sqlite.specs.declared.types.Value.TheVariants.{Null, Int, Text}
 use Rattle.sqlite.specs.Ops.{binary, is_true}
+use Rattle.sqlite_sql.specs.declared.ops.BinaryOp.TheVariants.{Compare}
+use Rattle.sqlite_sql.specs.declared.ops.CompareOp.TheVariants.{Eq}
+use Rattle.sqlite_value.specs.declared.keys.Collation.TheVariants.{Binary}
+use Rattle.sqlite_value.proofs.OrderLemmas.{value_cmp-Int}
+use Rattle.sqlite_value.proofs.KeyLemmas.{first_key-plain}
 use Rattle.sqlite.specs.Order.{Row}
 use Rattle.sqlite.specs.Tree.{Trees, IsAscending, rowid}
 use Rattle.sqlite.specs.Program.{overlay}
 use Rattle.sqlite.specs.Query.{IsAnswer}
 use Rattle.sqlite.specs.Cast.{cast_row}
 use Rattle.sqlite.specs.Edit.{Edit, edit_of, edited, next_rowid, with_rowid, are_fresh, left_by}
-use Rattle.sqlite.specs.Rows.{shown}
 use Rattle.sqlite.specs.Rowids.TheVariants.{Chosen, Given}
-use Rattle.sqlite_sql.specs.declared.ops.{BinaryOp.TheVariants.Compare, CompareOp.TheVariants.Eq}
-use Rattle.sqlite_value.{specs.declared.keys.Collation.TheVariants.Binary, proofs.OrderLemmas.value_cmp-Int, proofs.KeyLemmas.first_key-plain}
+use Rattle.sqlite.specs.Rows.{shown}
 use Rattle.sqlite_rules.specs.Lists.{Has}
 use Rattle.sqlite_rules.specs.Keys.{conflicts, AreConflicts}
 use Rattle.sqlite_rules.specs.Calls.{ids_of}
@@ -22,17 +27,17 @@ use Rattle.sqlite_rules.proofs.ProbeLemmas.{has_mapped}
 use Rattle.sqlite_trees.proofs.ListLemmas.{ascending_from_map}
 use Rattle.desk_sql.specs.Schema.{desk_schema, stock_at}
 use Rattle.desk_sql.specs.Lists.{numbered_row, IsTableOf, changed}
-use Rattle.desk_sql.specs.Writable.{AreLow}
 use Rattle.desk_sql.specs.Rows.{whole, StockRow, stock_columns}
 use Rattle.desk_sql.specs.Stock.{is_cell, with_places, put}
+use Rattle.desk_sql.specs.Writable.{AreLow}
 use Rattle.desk_sql.specs.Meanings.{put_cell_query}
 use Rattle.desk_sql.proofs.Writing.{cast_null, target, IsPut}
 use Rattle.desk_sql.proofs.Inserting.{cast_int}
-use Rattle.desk_sql.proofs.Updating.{updated, Changes}
-use Rattle.desk_sql.proofs.NewRow.{put_edit}
 use Rattle.desk_sql.proofs.Testing.{truth_is, eq_whole, eq_text, and_true, or_false}
 use Rattle.desk_sql.proofs.Rowids.{low_fewer, low_put, low_changed}
 use Rattle.desk_sql.proofs.Keyed.{id_of, value_of, value_there, appended, replaced_values}
+use Rattle.desk_sql.proofs.Updating.{updated, Changes}
+use Rattle.desk_sql.proofs.NewRow.{put_edit}
 
 -- Keys of cells.
 
@@ -58,7 +63,10 @@ both_cells s a b e f = search (rules, arith, key_of, cell_of)
 -- two elements of a list that are apart in neither order are equal
 one_element : {X : Type 0} (R : X → X → Type 0) (xs : List X) (x y : X) → IsAscending R xs → Has xs x → Has xs y → ¬ R x y → ¬ R y x → x ≡ y
 one_element R [] x y up h g not_xy not_yx = absurd h
-one_element R (z ∷ xs) x y up h g not_xy not_yx = search (rules, arith, all_has, one_element R xs x y)
+one_element R (z ∷ xs) x y up (inl e) (inl f) not_xy not_yx = e ∙ sym f
+one_element R (z ∷ xs) x y up (inl e) (inr g) not_xy not_yx = absurd (not_xy (subst (λ w. R w y) (sym e) (all_has _ xs y up.0 g)))
+one_element R (z ∷ xs) x y up (inr h) (inl f) not_xy not_yx = absurd (not_yx (subst (λ w. R w x) (sym f) (all_has _ xs x up.0 h)))
+one_element R (z ∷ xs) x y up (inr h) (inr g) not_xy not_yx = one_element R xs x y up.1 h g not_xy not_yx
 
 same_changed : {X : Type 0} (p q : X → Bool) (g : X → X) (xs : List X) → ((x : X) → Has xs x → p x ≡ q x) → changed p g xs ≡ changed q g xs
 same_changed p q g [] same = refl
@@ -85,6 +93,9 @@ equal_id a b = truth_is _ ∙ ap is_eq (value_cmp-Int a b)
 
 pub id_eq : (a b : ℤ) → is_eq (int_cmp a b) ≡ true → a ≡ b
 id_eq a b e = grind (arith, ints, e)
+
+eq_id : (a b : ℤ) → a ≡ b → is_eq (int_cmp a b) ≡ true
+eq_id a b e = grind (arith, ints, e)
 
 pub source_is : (rows : List Row) (s : StockRow)
     → with_rowid Chosen rows (cast_row (stock_at 1) (Null ∷ put_params s)) ≡ numbered_row stock_columns (next_rowid rows, s)
@@ -114,6 +125,9 @@ module _ (db : Trees) (cells : List StockRow) (it : IsTableOf stock_columns (db 
         ap rowid row.3 ∙ ap rowid q.2,
       )
 
+  put_is : edit_of db (stock_at 1) [] Given 0 (new_row ∷ []) ≡ put_edit (stock_at 1) new_row
+  put_is = simp cast_int
+
   pub sets : (edit : Edit) → IsPut db (put_params s) put_cell_query new_row edit → Sets edit
   sets edit (found, they, inl (none, is)) = inl (
     all_from (λ c. is_cell s c ≡ false) cells (λ x h. false_from_ne_true (is_cell s x) (λ e.
@@ -122,7 +136,7 @@ module _ (db : Trees) (cells : List StockRow) (it : IsTableOf stock_columns (db 
         let bad = they.complete (numbered_row stock_columns p.0) (value_there stock_columns (db 1) cells it p.0 p.1).1
         (conflict_is (next_rowid (db 1)) s p.0 ∙ on) in
         subst (λ rs. Has rs (Int p.0.0 ∷ [])) none bad)),
-    is ∙ simp cast_int,
+    is ∙ put_is,
   )
   sets edit (found, they, inr (first, more, several, rows, answer, is)) =
       let q = conflict_at found first they (subst (λ rs. Has rs first) (sym several) (inl refl)) in
@@ -137,7 +151,7 @@ module _ (db : Trees) (cells : List StockRow) (it : IsTableOf stock_columns (db 
   one_row : (apart : IsAscending (λ (a b : StockRow). is_cell a b ≡ false) cells) (q : ℤ × StockRow) → Has it.numbered q → is_cell s q.1 ≡ true
       → (p : ℤ × StockRow) → Has it.numbered p → is_eq (int_cmp p.0 q.0) ≡ is_cell s p.1
   one_row apart q there here p h = search
-      (rules, arith, cases_Bool, ascending_from_map, one_element, both_cells, false_from_ne_true, id_eq, ints)
+      (rules, arith, cases_Bool, ascending_from_map, one_element, both_cells, eq_id, false_from_ne_true, id_eq, ints)
 
   -- the cells after the upsert
   pub puts_table : (edit : Edit) → IsAscending (λ (a b : StockRow). is_cell a b ≡ false) cells → Sets edit → are_fresh (left_by db edit) edit.news ≡ true

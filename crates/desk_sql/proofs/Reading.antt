@@ -1,13 +1,14 @@
 -- The answer of a query over one table. For Answering and Updating.
 use Rattle.std.proofs.Common.{◌≡◌, ℕ, List, [], ◌∷◌, ◌++◌, map, Bool, cond, refl, sym, ap, subst, ◌∙◌, flat_map, filter, IsPermutation, IsSorted, arith, rules}
-use Rattle.std.{specs.List.list_all, proofs.lemmas.List.Sorted.IsPermutation-map}
+use Rattle.std.specs.List.{list_all}
+use Rattle.std.proofs.lemmas.List.Sorted.{IsPermutation-map}
 use Rattle.sqlite.specs.declared.types.Value.TheVariants.{Null}
 use Rattle.sqlite.specs.Order.{Row}
 use Rattle.sqlite.specs.Term.{Term, Env, eval_all, holds}
-use Rattle.sqlite.specs.Tree.{Trees}
 use Rattle.sqlite.specs.Query.{Query, IsAnswer, end, matches_as, output, Output, output_cmp}
-use Rattle.sqlite.specs.Program.{overlay}
+use Rattle.sqlite.specs.Tree.{Trees}
 use Rattle.sqlite_value.specs.declared.keys.Key.{Key}
+use Rattle.sqlite.specs.Program.{overlay}
 use Rattle.sqlite_trees.proofs.ListLemmas.{map-map}
 use Rattle.desk_sql.specs.Meanings.{sorted_rows, every_row}
 
@@ -33,7 +34,8 @@ abbrev pub outputs_of : Query → Row → List Row → List Output
 outputs_of q params rows = map (output q) (map (env_of params) rows)
 
 map_shown : (q : Query) (params : Row) (rows : List Row) → map (λ (o : Output). o.1) (outputs_of q params rows) ≡ map (shown_of q.project params) rows
-map_shown q params rows = search (rules, arith, map-map)
+map_shown q params rows =
+    ap (map (λ (o : Output). o.1)) (map-map (output q) (env_of params) rows) ∙ map-map (λ (o : Output). o.1) (λ (r : Row). output q (env_of params r)) rows
 
 -- the rows that the query shows of those that pass, in an order that ORDER BY allows
 pub record Lists (q : Query) (params : Row) (found : List Row) (rows : List Row) : Type 0 where

@@ -1,8 +1,18 @@
 -- Why a write of the desk's tables fails: out of memory, or the disk failed. Each other error that the store names is shut
 -- out, if the rules of SQL allow the edit.
-use Rattle.std.proofs.Common.{◌≡◌, inl, inr, ℕ, zero, suc, ◌/◌, List, [], ◌∷◌, length, length-append, append-nil, slice_get, Bool, true, false, ◌||◌, Option, None, Some, Ok, Err, Result, IfErr, sym, ap, subst, ◌∙◌, arith, rules}
+use Rattle.std.proofs.Common.{◌≡◌, inl, inr, ℕ, ℤ, zero, suc, ◌/◌, List, [], ◌∷◌, length, length-append, append-nil, slice_get, Bool, true, false, ◌||◌, Option, None, Some, Ok, Err, Result, IfErr, sym, ap, subst, ◌∙◌, arith, rules}
 use Rattle.sqlite.specs.declared.types.Value.TheVariants.{Null}
 use Rattle.sqlite.specs.declared.error.Error.{Error}
+use Rattle.sqlite_resolve.specs.declared.compiled.Compiled.{Compiled}
+use Rattle.sqlite_schema.specs.declared.schema.Among.TheVariants.{All}
+use Rattle.sqlite_schema.specs.declared.schema.Keys.TheVariants.{Enforced}
+use Rattle.sqlite_schema.specs.Rules.{Refers}
+use Rattle.sqlite_rules.specs.declared.error.Refusal.{Refusal}
+use Rattle.sqlite_rules.specs.Lists.{Has}
+use Rattle.sqlite_rules.specs.Calls.{ids_of}
+use Rattle.sqlite_rules.specs.Edit.{IsRefused, Edit, edit_of, taken_by}
+use Rattle.sqlite_rules.specs.Action.{Leads}
+use Rattle.sqlite_typing.specs.Types.{accepts_terms, accepts_program}
 use Rattle.sqlite.specs.Order.{Row}
 use Rattle.sqlite.specs.Term.{Term}
 use Rattle.sqlite.specs.Table.{Table}
@@ -11,34 +21,24 @@ use Rattle.sqlite.specs.Query.{IsAnswer}
 use Rattle.sqlite.specs.Program.{overlay}
 use Rattle.sqlite.specs.Source.TheVariants.{Values}
 use Rattle.sqlite.specs.Command.{Command}
-use Rattle.sqlite.specs.Rowids.TheVariants.{Given}
-use Rattle.sqlite.specs.Listing.{understood}
 use Rattle.sqlite.specs.Command.TheVariants.{Insert, InsertOr, Update, Delete, CreateTable, CreateIndex}
-use Rattle.sqlite.specs.Rows.{Outcome, Written, Inserts, Then, Gives, Edited, Queried, stamped, count_of, rowids_for}
-use Rattle.sqlite.specs.Does.{Does, OnRows, WritesRows}
+use Rattle.sqlite.specs.Rowids.TheVariants.{Given}
+use Rattle.sqlite.specs.Rows.{Outcome, Written, Inserts, Then, Gives, Edited, Sourced, Queried, Counter, Counts, stamped, count_of, rowids_for}
+use Rattle.sqlite.specs.Does.{Does, OnRows, WritesRows, Concludes}
 use Rattle.sqlite.specs.Effect.{Database, is_query, value_rows}
+use Rattle.sqlite.specs.Listing.{understood}
 use Rattle.sqlite.specs.Clock.{timed}
-use Rattle.sqlite.specs.State.{State, mode_of, EndsScope, ExecutesIn, ExecutesInside, is_pragma, text_of}
+use Rattle.sqlite.specs.State.{State, mode_of, IsMisplaced, Escapes, EndsScope, ExecutesIn, ExecutesInside, RunsAlone, is_pragma, text_of}
 use Rattle.sqlite.proofs.Callers.{IsPlain, command_of, statement_of, one_step}
-use Rattle.sqlite_resolve.specs.declared.compiled.Compiled.{Compiled}
-use Rattle.sqlite_schema.specs.declared.schema.Among.TheVariants.{All}
-use Rattle.sqlite_schema.specs.declared.schema.Keys.TheVariants.{Enforced}
-use Rattle.sqlite_schema.specs.Rules.{Refers}
 use Rattle.sqlite_schema.specs.declared.program.Program.{Program}
 use Rattle.sqlite_schema.specs.declared.schema.Schema.{Schema}
 use Rattle.sqlite_schema.specs.declared.schema.Index.{Index}
-use Rattle.sqlite_rules.specs.declared.error.Refusal.{Refusal}
-use Rattle.sqlite_rules.specs.Lists.{Has}
-use Rattle.sqlite_rules.specs.Calls.{ids_of}
-use Rattle.sqlite_rules.specs.Edit.{IsRefused, Edit, edit_of, taken_by}
-use Rattle.sqlite_rules.specs.Action.{Leads}
-use Rattle.sqlite_typing.specs.Types.{accepts_terms, accepts_program}
 use Rattle.std.specs.List.{AllByRecursion}
 use Rattle.desk_sql.specs.declared.versions.Version.TheVariants.{Two}
 use Rattle.desk_sql.specs.Schema.{desk_schema, desk_with, IsExtra, IsSchemaOf}
 use Rattle.desk_sql.specs.Causes.{IsUp, HasReason}
-use Rattle.desk_sql.specs.Meanings.{sorted_rows}
 use Rattle.desk_sql.proofs.Meaning.{Means}
+use Rattle.desk_sql.specs.Meanings.{sorted_rows}
 use Rattle.desk_sql.proofs.Causing.{takes, plain_at, not_run, of_store, one_table}
 use Rattle.desk_sql.proofs.Indexes.{refused_bare}
 use Rattle.desk_sql.proofs.Storing.{NeverOversized}
@@ -53,6 +53,13 @@ is_change (Delete at q) = true
 is_change CreateTable = true
 is_change (CreateIndex at) = true
 is_change _ = false
+
+-- a change is in its place in each transaction, and does not end it
+placed : (s : State) (k : Command) (e : Error) → is_change k ≡ true → ¬ IsMisplaced s k e
+placed s k e change x = search (rules, arith)
+
+stays_in : (held : ℕ) (s : State) (k : Command) → is_change k ≡ true → ¬ Escapes held s k
+stays_in held s k change x = search (rules, arith)
 
 -- the database that the transaction sees, with this schema
 abbrev pub seen_with : Schema → State → Database
@@ -85,10 +92,14 @@ module _ {schema : Schema} (text : List ℕ) (command : Command) (params : Row) 
       let same : text_of text c ≡ statement_of text (understood schema text) = ap (statement_of text) (sym is ∙ ap (λ s. understood s text) has) in
       allowed stop (subst (λ t. Does old.step_limit (mode_of old) params (seen_with schema old) t None command (Err stop)) same four)
 
+  alone : (c : Compiled) → understood old.now.schema text ≡ Ok c → (now : ℕ) (e : Error)
+      → RunsAlone false old new text c (timed params c.formats now) (Err e) → HasReason old new e
+  alone c is now e h = search (rules, arith, plain_at, known, placed, ran, of_store)
+
   -- it fails out of memory, or where the disk failed or refused
   pub statement_reason : (e : Error) → ExecutesInside 0 text params old new (Err e) → HasReason old new e
   unfolding ExecutesIn EndsScope
-  statement_reason e x = search (rules, arith, not_run, plain_at, ran, of_store, known)
+  statement_reason e x = search (rules, arith, not_run, alone, stays_in, known)
 
 -- a write of the desk's tables that the rules of SQL allow fails out of memory, or where the disk failed or refused
 pub write_reason : (text : List ℕ) (command : Command) (params : Row) → Means text command
@@ -143,7 +154,10 @@ module _ (extra : List Index) (are : AllByRecursion IsExtra extra) where
       → ((w : Written) → WritesRows (task_for extra old table params) old.now.trees command (Ok w) → Refers All desk_schema w.trees)
       → ¬ OnRows (task_for extra old table params) (mode_of old) None command old.now.trees (Err stop)
   rows_go old params table command stop goes refers (inl h) = goes h.0 h.1
-  rows_go old params table command stop goes refers (inr (w, done, ends)) = let held = refers w done in search (rules, arith, gives_on)
+  rows_go old params table command stop goes refers (inr h) = concluded h.0 (refers h.0 h.1) h.2
+    where
+      concluded : (w : Written) → Refers All desk_schema w.trees → ¬ Concludes (task_for extra old table params) (mode_of old) None w (Err stop)
+      concluded w held x = search (rules, arith, gives_on)
 
   -- VALUES of these terms are rows, whose insertion is one edit
   pub insert_goes : (old : State) (params : Row) (at : ℕ) (table : Table) (terms : List Term) (width : ℕ)
@@ -156,17 +170,27 @@ module _ (extra : List Index) (are : AllByRecursion IsExtra extra) where
       (λ w done. made_refers extra are old.now.trees w.trees (source_edit table terms width params old.now.trees) safe
       (insert_edits (task_for extra old table params) terms width old.now.trees w uncounted unstamped done)) (rw there at h)
     where
+      sourced : (stopped : Option Error) → ¬ Sourced old.step_limit (desk_at extra old) (stamped table params) (Values terms width) (Err stopped)
+      sourced stopped x = search (rules, arith)
+
+      counter : (stopped : Option Error) → ¬ Counter (task_for extra old table params) old.now.trees (Err stopped)
+      counter stopped k = let e = rw uncounted at k in cc
+
       edit_is : (rows : List Row) (counted : Option Row) → rows ≡ value_rows (stamped table params) width (length terms / width) terms
           → edit_of old.now.trees table [] (rowids_for table (count_of counted)) 0 rows ≡ source_edit table terms width params old.now.trees
       edit_is rows counted is = search (rules, arith)
 
+      counts : (mid : Trees) (counted : Option Row) (top : ℤ) (stopped : Option Error)
+          → ¬ Counts (task_for extra old table params) mid counted top (Err stopped)
+      counts mid counted top stopped k = let e = rw uncounted at k in cc
+
       goes : (s : Option Error) → ¬ Inserts (task_for extra old table params) (Values terms width) old.now.trees (Err s)
-      goes s (inl (stop, refused, is)) = search (rules, arith)
-      goes s (inr (rows, given, inl k)) = let e = rw uncounted at k.1 in cc
+      goes s (inl k) = sourced k.0 k.1
+      goes s (inr (rows, given, inl k)) = counter k.0 k.1
       goes s (inr (rows, given, inr (counted, known, inl k))) =
           edit_goes extra are old.now.trees (source_edit table terms width params old.now.trees) safe k.0
           (subst (λ e. Edited (desk_with extra) Enforced old.now.trees e (Err k.0)) (edit_is rows counted given.1) k.1)
-      goes s (inr (rows, given, inr (counted, known, inr (mid, edited, inl k)))) = let e = rw uncounted at k.1 in cc
+      goes s (inr (rows, given, inr (counted, known, inr (mid, edited, inl k)))) = counts mid counted _ k.0 k.1
       goes s (inr (rows, given, inr (counted, known, inr (mid, edited, inr k)))) = gives_on s k.2
 
   -- A query of one table is answered, and the edit of its rows is safe.

@@ -1,15 +1,21 @@
 -- How many rowids a write leaves. For the functions that write.
-use Rattle.std.proofs.Common.{◌≡◌, ◌==◌, ◌<◌, ◌≤◌, ◌^◌, ◌+ℤ◌, ◌<ℤ◌, false, ℕ, ℤ, suc, pos, inl, inr, List, [], ◌∷◌, map, Bool, eqb-true, ap, arith, rules}
-use Rattle.std.{proofs.lemmas.Int.ints, proofs.lemmas.Bool.cases_Bool, proofs.lemmas.Bool.eqb-false, specs.List.AllByRecursion}
+use Rattle.std.proofs.Common.{◌≡◌, ◌≢◌, ◌==◌, ◌<◌, ◌≤◌, ◌^◌, ◌+ℤ◌, ◌<ℤ◌, false, ℕ, ℤ, suc, pos, inl, inr, List, [], ◌∷◌, map, Bool, eqb-true, ap, arith, rules}
+use Rattle.std.proofs.lemmas.Int.{ints}
+use Rattle.std.proofs.lemmas.Bool.{cases_Bool, eqb-false}
 use Rattle.sqlite.specs.declared.types.Value.TheVariants.{Int}
+use Rattle.std.specs.List.{AllByRecursion}
 use Rattle.sqlite.specs.Table.{Table}
 use Rattle.sqlite.specs.Order.{Row}
-use Rattle.sqlite.specs.State.{State}
 use Rattle.sqlite.specs.Edit.{Edit, edited, next_rowid, id_in, without_all}
-use Rattle.sqlite_trees.{specs.Tree.Trees, specs.Tree.rowid, specs.Tree.put_row, proofs.ListLemmas.all_weaker}
+use Rattle.sqlite.specs.State.{State}
+use Rattle.sqlite_trees.specs.Tree.{Trees, rowid, put_row}
 use Rattle.sqlite_rules.proofs.ListLemmas.{all_has, all_from}
 use Rattle.sqlite_rules.proofs.TableLemmas.{put_has, without_all_has}
-use Rattle.desk_sql.{specs.Lists.changed, specs.Writable.AreLow, specs.Writable.HasRowids, proofs.Writing.Edits, proofs.Storing.next_low}
+use Rattle.sqlite_trees.proofs.ListLemmas.{all_weaker}
+use Rattle.desk_sql.specs.Lists.{changed}
+use Rattle.desk_sql.specs.Writable.{AreLow, HasRowids}
+use Rattle.desk_sql.proofs.Writing.{Edits}
+use Rattle.desk_sql.proofs.Storing.{next_low}
 
 abbrev IsLow : ℕ → Row → Type 0
 IsLow n r = (pos 0 <ℤ id_in (rowid r)) × ((id_in (rowid r) +ℤ pos n) <ℤ pos (2 ^ 63))
@@ -51,5 +57,10 @@ module _ (old new : State) (edit : Edit) (it : Edits old new edit) (n : ℕ) (ha
   pub rowids_same : IsOwn edit.table → HasRowids n new.now.trees
   rowids_same its_own = search (rules, arith, eqb-false)
 
+  -- a write of a table whose rowids the store chooses
+  at_tree : (tree : ℕ) → (tree ≢ edit.table.tree → new.now.trees tree ≡ old.now.trees tree) → AreLow n (edited old.now.trees edit)
+      → AreLow n (old.now.trees tree) → AreLow n (new.now.trees tree)
+  at_tree tree others low was = search (rules, arith, cases_Bool, eqb-true, eqb-false)
+
   pub rowids_kept : AreLow n (edited old.now.trees edit) → HasRowids n new.now.trees
-  rowids_kept low = search (rules, arith, cases_Bool, eqb-true, eqb-false)
+  rowids_kept low = search (rules, arith, at_tree)

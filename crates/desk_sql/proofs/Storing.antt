@@ -1,28 +1,31 @@
 -- Rows that the store can hold, rowids that are free, and keys that are new. For the lemmas of each statement that writes.
-use Rattle.std.proofs.Common.{◌≡◌, ◌<◌, ◌≤◌, ◌^◌, ◌+◌, ◌+ℤ◌, ◌<ℤ◌, ℕ, ℤ, pos, List, [], ◌∷◌, map, filter, length, fold, Bool, true, false, not, ◌&&◌, Less, is_eq, refl, sym, ap, ap₂, subst, ◌∙◌, arith, nat_lt, nat_le, bytes_eq, ◌==◌, sum_by, ◌||◌, rules}
+use Rattle.std.proofs.Common.{◌≡◌, ◌<◌, ◌≤◌, ◌^◌, ◌+◌, ◌+ℤ◌, ◌<ℤ◌, ℕ, ℤ, pos, Some, List, [], ◌∷◌, map, filter, length, fold, Bool, true, false, not, ◌&&◌, Less, is_eq, refl, sym, ap, ap₂, subst, ◌∙◌, arith, nat_lt, nat_le, bytes_eq, ◌==◌, sum_by, ◌||◌, rules}
 use Rattle.std.specs.Float.{NotNan}
-use Rattle.std.specs.List.{AllByRecursion, list_all}
-use Rattle.std.specs.Int.{bit_at}
-use Rattle.std.proofs.lemmas.{Int.ints, Bool.and_parts, Bool.or_right, Bool.not-true, Bool.Decides.nat_tests, Nat.Bits.bit_at-zero}
-use Rattle.std.proofs.lemmas.List.Elements.{All-from_recursion}
 use Rattle.std.specs.Float.Ieee
+use Rattle.std.specs.List.{AllByRecursion, list_all}
+use Rattle.std.proofs.lemmas.Int.{ints}
+use Rattle.std.proofs.lemmas.Bool.{and_parts, not-true}
+use Rattle.std.proofs.lemmas.Bool.Decides.{nat_tests}
+use Rattle.std.proofs.lemmas.List.Elements.{All-from_recursion}
+use Rattle.std.proofs.lemmas.Nat.Bits.{bit_at-zero}
+use Rattle.std.specs.Int.{bit_at}
 use Rattle.sqlite_value.specs.declared.value.Value.{Value}
-use Rattle.sqlite_value.specs.Order.{Row, column, number, bytes, value_cmp}
 use Rattle.sqlite_value.specs.declared.value.Value.TheVariants.{Int, Real, Text}
-use Rattle.sqlite_value.specs.Keys.{first_key, joined, plain}
-use Rattle.sqlite_value.specs.declared.keys.Collation.TheVariants.{Binary}
+use Rattle.sqlite_value.specs.Order.{Row, number, bytes, exact, value_cmp}
+use Rattle.sqlite_value.specs.Keys.{first_key, plain}
 use Rattle.sqlite_trees.specs.Tree.{Trees, rowid, IsTable}
 use Rattle.sqlite_trees.specs.View.{IsStorable, IsStorableRow}
-use Rattle.sqlite_trees.proofs.ListLemmas.{all-map, all_from_map, all_weaker}
 use Rattle.sqlite_schema.specs.Rules.{equal, has_parent, table_reals, index_reals}
-use Rattle.sqlite_schema.specs.declared.schema.Index.{Index}
-use Rattle.sqlite_rules.{specs.Edit.id_in, specs.Edit.is_taken, specs.Edit.next_rowid, specs.Edit.IsOversized, proofs.ProbeLemmas.mapped_has}
+use Rattle.sqlite_rules.specs.Edit.{id_in, is_taken, next_rowid, IsOversized}
 use Rattle.sqlite_rules.proofs.ListLemmas.{some_from, all_has, all_from, test_has, has_kept, has_either}
-use Rattle.sqlite.specs.Ops.{fits_i64, binary, is_false}
-use Rattle.sqlite.specs.Table.{Table}
+use Rattle.sqlite_rules.proofs.ProbeLemmas.{mapped_has}
+use Rattle.sqlite.specs.Ops.{fits_i64, binary, is_false, from_truth}
 use Rattle.sqlite_sql.specs.declared.ops.BinaryOp.TheVariants.{Compare, And, Or}
 use Rattle.sqlite_sql.specs.declared.ops.CompareOp.TheVariants.{Eq, Ge, Le}
+use Rattle.sqlite_value.specs.declared.keys.Collation.TheVariants.{Binary}
+use Rattle.sqlite.specs.Table.{Table}
 use Rattle.sqlite_sql.specs.Catalog.{entry_of}
+use Rattle.sqlite_schema.specs.declared.schema.Index.{Index}
 use Rattle.sqlite_tied.specs.Compute.{everything}
 use Rattle.desk_sql.specs.Lists.{numbered_row, IsTableOf, IsNumbered}
 use Rattle.desk_sql.specs.Rows.{whole, Tables, journey_row, Shows}
@@ -30,6 +33,7 @@ use Rattle.desk_sql.specs.Schema.{desk_schema, index_places, desk_with, IsExtra,
 use Rattle.desk_sql.specs.Writable.{AreLow, HasJourney}
 use Rattle.desk_sql.proofs.Keyed.{int_below, next_above, is_table, id_of, value_of, own_rise}
 use Rattle.desk_sql.proofs.Testing.{eq_whole, eq_text, eq_value, ge_value, le_value}
+use Rattle.sqlite_trees.proofs.ListLemmas.{all-map, all_from_map, all_weaker}
 
 -- Sizes.
 
@@ -37,9 +41,13 @@ abbrev is_real : Value → Bool
 is_real (Real x) = true
 is_real _ = false
 
+int_number : (n : ℤ) → NotNan (exact n)
+unfolding Ieee.is_nan
+int_number n = search (rules, arith)
+
 number_is : (v : Value) → is_real v ≡ false → NotNan (number v)
 unfolding Ieee.is_nan
-number_is v e = search (rules, arith)
+number_is v e = search (rules, arith, int_number)
 
 numbers_are : (row : Row) → list_all (λ v. not (is_real v)) row ≡ true → AllByRecursion (λ v. NotNan (number v)) row
 numbers_are row all = all_from (λ v. NotNan (number v)) row (λ v there. number_is v (not-true (is_real v) (test_has (λ v. not (is_real v)) row v all there)))
@@ -54,10 +62,13 @@ storable reals row none plainly short =
     let parts = and_parts (nat_lt 0 (length row) && nat_le (length row) 2001) (list_all (λ v. not (is_real v)) row) plainly in
     record {
       typed = λ c one. absurd (let zero : bit_at reals c ≡ 0 = ap (λ r. bit_at r c) none ∙ bit_at-zero c in omega (arith, zero, one));
-      columns = let both = parts.0 in search (rules, arith, and_parts, nat_tests);
+      columns = long (length row) parts.0;
       numbers = All-from_recursion (λ v. NotNan (number v)) row (numbers_are row parts.1);
       short = short;
     }
+  where
+    long : (n : ℕ) → (nat_lt 0 n && nat_le n 2001) ≡ true → (0 < n) × (n ≤ 2001)
+    long n h = search (rules, arith, and_parts, nat_tests)
 
 -- the row fits the store, and so does its entry in each index, whatever indexes there are beside those of the keys
 abbrev pub NeverOversized : Table → Row → Type 0
@@ -67,14 +78,19 @@ NeverOversized table row = (extra : List Index) → AllByRecursion IsExtra extra
 abbrev EntryFits : Table → Row → List ℕ → Type 0
 EntryFits table row columns = IsStorable (index_reals (table_reals table) columns) (entry_of columns row)
 
-pub alike : (a b : ℕ) → a ≡ b → (a == b) ≡ true
+alike : (a b : ℕ) → a ≡ b → (a == b) ≡ true
 alike a b same = grind (arith, nat_tests)
+
+extra_fits : (table : Table) (row : Row) (i : Index) → IsExtra i → i.table ≡ table.tree
+    → AllByRecursion (λ (p : ℕ × List ℕ). EntryFits table row p.1) (filter (λ (p : ℕ × List ℕ). p.0 == table.tree) index_places)
+    → EntryFits table row i.columns
+extra_fits table row i it of entries = search (rules, arith, all_has, has_kept, alike)
 
 pub held_from : (table : Table) (row : Row) → IsStorableRow (table_reals table) row
     → AllByRecursion (λ (i : Index). EntryFits table row i.columns) (filter (λ (i : Index). i.table == table.tree) desk_schema.indexes)
     → AllByRecursion (λ (p : ℕ × List ℕ). EntryFits table row p.1) (filter (λ (p : ℕ × List ℕ). p.0 == table.tree) index_places)
     → NeverOversized table row
-held_from table row whole keys others extra are x = search (rules, arith, has_either, all_has, has_kept, alike)
+held_from table row whole keys others extra are x = search (rules, arith, has_either, all_has, has_kept, alike, extra_fits)
 
 -- Rowids.
 
@@ -146,15 +162,30 @@ pub key_whole : (a b : ℕ) → equal (first_key plain).collation (whole a) (who
 unfolding first_key
 key_whole a b = eq_whole a b
 
--- a row that names a journey in this column has its parent
-pub parent_at : (at : ℕ) (db : Trees) (t : Tables) (id : ℕ) (row : Row) → column row at ≡ whole id → Shows db t → HasJourney id t
-    → has_parent desk_schema.tables db row (to_journey at) ≡ true
-unfolding everything first_key joined
-parent_at at db t id row is shown (j, there, same) = or_right _ _
-    (some_from _ (db 6) (journey_row j) (rw shown.journey.rows_are (mapped_has journey_row t.journey j there))
-    (rw (is, eq_whole j.id id, alike j.id id same) refl))
+-- a row that names a journey in its first column has its parent
+pub parent_first : (db : Trees) (t : Tables) (id : ℕ) (v : Value) (rest : Row) → Shows db t → HasJourney id t
+    → has_parent desk_schema.tables db (v ∷ whole id ∷ rest) (to_journey 1) ≡ true
+unfolding everything first_key
+parent_first db t id v rest shown (j, there, is) =
+    some_from _ (db 6) (journey_row j) (rw shown.journey.rows_are (mapped_has journey_row t.journey j there))
+    (rw (eq_whole j.id id, alike j.id id is) refl)
+
+pub parent_second : (db : Trees) (t : Tables) (id : ℕ) (v w : Value) (rest : Row) → Shows db t → HasJourney id t
+    → has_parent desk_schema.tables db (v ∷ w ∷ whole id ∷ rest) (to_journey 2) ≡ true
+unfolding everything first_key
+parent_second db t id v w rest shown (j, there, is) =
+    some_from _ (db 6) (journey_row j) (rw shown.journey.rows_are (mapped_has journey_row t.journey j there))
+    (rw (eq_whole j.id id, alike j.id id is) refl)
 
 -- Checks.
+
+or_value : (x y : Bool) → is_false (binary Or (from_truth (Some x)) (from_truth (Some y))) ≡ not (x || y)
+unfolding binary
+or_value x y = search (rules, arith)
+
+and_value : (x y : Bool) → is_false (binary And (from_truth (Some x)) (from_truth (Some y))) ≡ not (x && y)
+unfolding binary
+and_value x y = search (rules, arith)
 
 -- the tests of the tables' checks, which fail only where they are false
 abbrev pub is_bit : ℕ → Bool
@@ -166,17 +197,14 @@ is_between n low high = not (is_false (binary And (binary (Compare Ge Binary) (w
 -- 0 and 1 are in range
 pub bit_holds : (n : ℕ) → n ≤ 1
     → is_false (binary Or (binary (Compare Eq Binary) (whole n) (whole 0)) (binary (Compare Eq Binary) (whole n) (whole 1))) ≡ false
-unfolding binary
-bit_holds n low = search (rules, arith, eq_value)
+bit_holds n low = search (rules, arith, eq_value, or_value)
 
 -- the column is between two numbers
 pub range_holds : (n low high : ℕ) → low ≤ n → n ≤ high
     → is_false (binary And (binary (Compare Ge Binary) (whole n) (whole low)) (binary (Compare Le Binary) (whole n) (whole high))) ≡ false
-unfolding binary
-range_holds n low high from to = search (rules, arith, ge_value, le_value, nat_tests)
+range_holds n low high from to = search (rules, arith, ge_value, le_value, and_value, nat_tests)
 
 -- where the test of a range is not false, the column is at most its end
 pub range_ends : (n low high : ℕ)
     → not (is_false (binary And (binary (Compare Ge Binary) (whole n) (whole low)) (binary (Compare Le Binary) (whole n) (whole high)))) ≡ true → n ≤ high
-unfolding binary
-range_ends n low high holds = search (rules, arith, ge_value, le_value, nat_tests)
+range_ends n low high holds = search (rules, arith, ge_value, le_value, and_value, nat_tests)

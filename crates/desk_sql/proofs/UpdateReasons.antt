@@ -2,21 +2,20 @@
 -- and for `delete_mark`.
 use Rattle.std.proofs.Common.{◌≡◌, ◌≤◌, ◌+◌, ◌⊎◌, ℕ, ℤ, List, [], drop, length, inl, inr, Ok, Bool, true, ◌&&◌, refl, sym, ap, subst, ◌∙◌, arith, ◌∷◌, filter, not, nat_lt, ◌||◌, rules}
 use Rattle.std.specs.List.{AllByRecursion, list_any}
-use Rattle.std.specs.Prelude.{⊤}
-use Rattle.std.proofs.lemmas.{Int.ints, Bool.and_parts, Bool.and_from, Bool.or_right}
+use Rattle.std.proofs.lemmas.Int.{ints}
+use Rattle.std.proofs.lemmas.Bool.{and_parts, and_from, or_right}
 use Rattle.sqlite.specs.declared.types.Value.TheVariants.{Int}
 use Rattle.sqlite.specs.Order.{Row, column}
 use Rattle.sqlite.specs.Ops.{fits_i64}
 use Rattle.sqlite.specs.Table.{Table}
 use Rattle.sqlite.specs.Term.{Term}
-use Rattle.sqlite.specs.Program.{overlay}
 use Rattle.sqlite.specs.Tree.{Trees, rowid, IsTable}
 use Rattle.sqlite.specs.Query.{Query, IsAnswer}
+use Rattle.sqlite.specs.Program.{overlay}
 use Rattle.sqlite.specs.Cast.{cast_row}
 use Rattle.sqlite.specs.Edit.{Edit, edit_of, edited}
 use Rattle.sqlite.specs.Rowids.TheVariants.{Given}
 use Rattle.sqlite.specs.State.{State, ExecutesInside}
-use Rattle.sqlite.specs.Listing.{understood}
 use Rattle.sqlite_schema.specs.declared.schema.Constraint.TheVariants.{Check}
 use Rattle.sqlite_schema.specs.declared.schema.Reference.{Reference}
 use Rattle.sqlite_schema.specs.Rules.{Obeys, agree, has_null, has_parent}
@@ -28,29 +27,31 @@ use Rattle.sqlite_rules.proofs.ProbeLemmas.{mapped_has}
 use Rattle.sqlite_rules.proofs.RuleLemmas.{keeps_at}
 use Rattle.sqlite_typing.specs.Types.{accepts_program}
 use Rattle.desk_sql.specs.Schema.{desk_schema, desk_with, stock_at, to_journey, mark_at}
-use Rattle.desk_sql.specs.Calls.{Sees, MayRun}
 use Rattle.desk_sql.specs.Lists.{numbered_row, changed}
-use Rattle.desk_sql.specs.Writable.{AreLow, HasRowids, IsShort}
-use Rattle.desk_sql.specs.Texts.{delete_mark_text}
 use Rattle.desk_sql.specs.Rows.{Tables, Shows, StockRow, stock_columns, whole, mark_columns}
+use Rattle.desk_sql.specs.Calls.{Sees, MayRun}
+use Rattle.desk_sql.specs.Writable.{AreLow, HasRowids, IsShort}
 use Rattle.desk_sql.specs.Meanings.{update, every_row, delete, delete_mark_query}
-use Rattle.desk_sql.specs.Changes.{drops_mark, is_mark_at}
 use Rattle.desk_sql.proofs.Refusing.{write_reason, update_goes, IsSafe, delete_goes}
 use Rattle.desk_sql.proofs.NewRow.{IsFit, turn_safe}
 use Rattle.desk_sql.proofs.ChangedRows.{update_safe}
 use Rattle.desk_sql.proofs.Writing.{updates, Edits, Lands, deletes}
-use Rattle.desk_sql.proofs.InsertReasons.{obeys_desk}
 use Rattle.desk_sql.proofs.Framing.{ready_of, makes_at}
+use Rattle.desk_sql.proofs.InsertReasons.{obeys_desk}
 use Rattle.desk_sql.proofs.Reading.{passes, shown_of}
-use Rattle.desk_sql.proofs.Effects.{Says, Effect}
 use Rattle.desk_sql.proofs.Updating.{Changes, updated, table_deleted}
-use Rattle.desk_sql.proofs.Places.{Codec, Place}
 use Rattle.desk_sql.proofs.Rowids.{IsOwn, low_changed, rowids_same, rowids_kept, low_without}
 use Rattle.desk_sql.proofs.Storing.{storable, held_from, fits_int, is_between, range_holds, range_ends, table_of}
-use Rattle.desk_sql.proofs.Testing.{eq_whole, and_true}
+use Rattle.desk_sql.proofs.Effects.{Says, Effect}
+use Rattle.desk_sql.proofs.Places.{Codec, Place}
 use Rattle.desk_sql.proofs.Places
+use Rattle.std.specs.Prelude.{⊤}
+use Rattle.sqlite.specs.Listing.{understood}
 use Rattle.sqlite_value.specs.Keys.{first_key, joined, plain}
 use Rattle.sqlite_tied.specs.Compute.{everything}
+use Rattle.desk_sql.specs.Changes.{drops_mark, is_mark_at}
+use Rattle.desk_sql.specs.Texts.{delete_mark_text}
+use Rattle.desk_sql.proofs.Testing.{eq_whole, and_true}
 
 -- The effect of an UPDATE, from what its text means and what its rows obey.
 

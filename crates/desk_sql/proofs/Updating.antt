@@ -1,15 +1,11 @@
 -- The rows of a table, as rows and as values, after an UPDATE or a DELETE. For ChangedRows, UpdateReasons and Putting.
 use Rattle.std.proofs.Common.{◌≡◌, inl, inr, ℤ, List, [], ◌∷◌, map, Bool, true, false, not, if◌then◌else◌, filter, Less, is_eq, refl, sym, ap, subst, ◌∙◌, ◌<ℤ◌, drop, IsPermutation, arith, rules}
-use Rattle.std.proofs.lemmas.{Bool.cases_Bool, Bool.false_from_ne_true, Bool.not-true, Cmp.tied_itself}
+use Rattle.std.proofs.lemmas.Bool.{cases_Bool, false_from_ne_true, not-true}
 use Rattle.std.specs.Ordering.{ordering_reverse}
-use Rattle.sqlite_value.{specs.declared.value.Value.TheVariants.Int, proofs.OrderLemmas.value_cmp_total}
+use Rattle.std.proofs.lemmas.Cmp.{tied_itself}
+use Rattle.sqlite_value.specs.declared.value.Value.TheVariants.{Int}
+use Rattle.sqlite_value.proofs.OrderLemmas.{value_cmp_total}
 use Rattle.sqlite.specs.Order.{Row, value_cmp}
-use Rattle.sqlite.specs.Term.{Term}
-use Rattle.sqlite.specs.Table.{Table}
-use Rattle.sqlite.specs.Program.{overlay}
-use Rattle.sqlite.specs.Query.{IsAnswer}
-use Rattle.sqlite.specs.Cast.{cast_row}
-use Rattle.sqlite.specs.Rowids.TheVariants.{Given}
 use Rattle.sqlite_trees.specs.Tree.{rowid, has_rowid, without_rowid, put_row, IsTable, Trees, IsAscending}
 use Rattle.sqlite_trees.proofs.TreeLemmas.{IsTable-put_row}
 use Rattle.sqlite_trees.proofs.ListLemmas.{ascending-filter, filter-map}
@@ -21,17 +17,25 @@ use Rattle.sqlite_rules.proofs.ProbeLemmas.{has_mapped, mapped_has}
 use Rattle.sqlite_rules.proofs.PlaceLemmas.{left_or_taken, row_at_is, given}
 use Rattle.sqlite_rules.proofs.TableLemmas.{put_all_has, put_all_keeps, put_all_adds, without_all_has}
 use Rattle.desk_sql.specs.Lists.{changed, numbered_row, IsTableOf}
-use Rattle.desk_sql.specs.Meanings.{every_row}
 use Rattle.desk_sql.proofs.Members.{permutation_from, permutation_to, one_order}
+use Rattle.sqlite.specs.Term.{Term}
+use Rattle.sqlite.specs.Table.{Table}
+use Rattle.sqlite.specs.Program.{overlay}
+use Rattle.sqlite.specs.Query.{IsAnswer}
+use Rattle.sqlite.specs.Cast.{cast_row}
+use Rattle.sqlite.specs.Rowids.TheVariants.{Given}
+use Rattle.desk_sql.specs.Meanings.{every_row}
 use Rattle.desk_sql.proofs.Reading.{passes, shown_of, shows_any}
 use Rattle.desk_sql.proofs.Keyed.{is_table, changed_rows, id_of, kept_values}
 
 -- The rows of a table after an UPDATE or a DELETE.
 
+never_both : (a b : Row) → value_cmp (rowid a) (rowid b) ≡ Less → value_cmp (rowid b) (rowid a) ≡ Less → ⊥
+never_both a b p q = let e = value_cmp_total.antisymm (rowid a) (rowid b) ∙ ap ordering_reverse q in cc
+
 -- two tables with the same rows are equal
 same_rows : (xs ys : List Row) → IsTable xs → IsTable ys → ((r : Row) → Has xs r → Has ys r) → ((r : Row) → Has ys r → Has xs r) → xs ≡ ys
-same_rows = one_order (λ (a b : Row). value_cmp (rowid a) (rowid b) ≡ Less)
-    (λ a b p q. let e = value_cmp_total.antisymm (rowid a) (rowid b) ∙ ap ordering_reverse q in cc)
+same_rows = one_order (λ (a b : Row). value_cmp (rowid a) (rowid b) ≡ Less) never_both
 
 put_all_table : (news rows : List Row) → IsTable rows → IsTable (put_all rows news)
 put_all_table [] rows up = up

@@ -2,6 +2,7 @@
 use Rattle.std.proofs.Common.{◌≡◌, ◌≢◌, ◌<◌, ◌^◌, pos, to_z, w64, if◌then◌else◌, ◌⊎◌, inl, inr, ℕ, ◌/◌, List, [], length, slice_get, Bool, true, false, cond, Some, None, Ok, Err, Result, refl, sym, ap, subst, ◌∙◌, arith, ℤ, ◌∷◌, ◌++◌, Option, rules}
 use Rattle.sqlite.specs.declared.types.Value.{Value}
 use Rattle.sqlite.specs.declared.types.Value.TheVariants.{Null}
+use Rattle.std.proofs.lemmas.Int.{ints}
 use Rattle.sqlite.specs.Kind.TheVariants.{Integer}
 use Rattle.sqlite.specs.Cast.{cast, cast_row}
 use Rattle.sqlite.specs.Ops.{unary}
@@ -16,23 +17,33 @@ use Rattle.sqlite.specs.Edit.{Edit, edit_of, edited, taken_by, Applies, with_row
 use Rattle.sqlite.specs.Rowids.TheVariants.{Chosen, Given}
 use Rattle.sqlite.specs.Query.{Query, IsAnswer}
 use Rattle.sqlite.specs.Program.{overlay}
-use Rattle.sqlite.specs.Listing.{understood}
-use Rattle.sqlite.specs.Does.{Tally, Does, OnRows, WritesRows}
-use Rattle.sqlite.specs.Effect.{Database, IsDatabase, value_rows}
-use Rattle.sqlite.specs.Rows.{Written, Task, Inserts, Edited, stamped, count_of, Puts, Clears, Upserts, Tries, TriesEach, InsertsOr, shown, nothing}
-use Rattle.sqlite.specs.State.{State, mode_of, Executes, Shows, Writes, Runs}
-use Rattle.sqlite.specs.declared.error.Error.{Error}
-use Rattle.sqlite.proofs.Callers.{statement_of, runs_as, one_step}
-use Rattle.std.{proofs.lemmas.Int.ints, specs.List.AllByRecursion}
 use Rattle.sqlite_rules.specs.Calls.{ids_of}
+use Rattle.sqlite_schema.specs.declared.schema.Index.{Index}
+use Rattle.std.specs.List.{AllByRecursion}
+use Rattle.sqlite_schema.specs.declared.schema.Action.TheVariants.{NoAction}
+use Rattle.sqlite_schema.specs.declared.schema.Keys.TheVariants.{Enforced}
 use Rattle.sqlite_rules.specs.Action.{works}
-use Rattle.sqlite_rules.specs.Keys.{AreConflicts}
-use Rattle.sqlite_schema.specs.declared.{schema.Index.Index, schema.Keys.TheVariants.Enforced, command.Conflict.TheVariants.Abort}
-use Rattle.sqlite_schema.specs.declared.command.Upsert.{Upsert}
-use Rattle.desk_sql.{specs.declared.versions.Version.TheVariants.Two, specs.Calls.IsReady, proofs.Meaning.Means, proofs.Indexes.are_conflicts}
+use Rattle.sqlite.specs.Does.{Tally, Does, OnRows, WritesRows, Concludes}
+use Rattle.sqlite.specs.declared.run.Mode.{Mode}
+use Rattle.sqlite.specs.Rows.{Written, Task, Inserts, Edited, stamped, count_of, Puts, Clears, Upserts, Judged, Tries, TriesEach, InsertsOr, shown, nothing}
+use Rattle.sqlite.specs.Effect.{Database, IsDatabase, value_rows}
+use Rattle.sqlite.specs.Listing.{understood}
+use Rattle.sqlite.specs.State.{State, mode_of, Executes, Shows, Writes, Runs}
+use Rattle.sqlite.proofs.Callers.{statement_of, runs_as, one_step}
+use Rattle.desk_sql.specs.declared.versions.Version.TheVariants.{Two}
 use Rattle.desk_sql.specs.Schema.{desk_schema, desk_with, IsSchemaOf, IsExtra, stock_at}
+use Rattle.desk_sql.specs.Calls.{IsReady}
+use Rattle.desk_sql.proofs.Meaning.{Means}
+use Rattle.sqlite_schema.specs.declared.command.Conflict.TheVariants.{Abort}
+use Rattle.sqlite_schema.specs.declared.command.Upsert.{Upsert}
+use Rattle.sqlite_rules.specs.Keys.{AreConflicts}
+use Rattle.sqlite_rules.specs.declared.error.Refusal.{Refusal}
+use Rattle.sqlite.specs.declared.error.Error.{Error}
+use Rattle.desk_sql.proofs.Indexes.{are_conflicts}
 
-pub either : (b : Bool) (x : Value) → cond b x x ≡ x
+-- The effect of a statement that writes on the desk's tables, by its meaning.
+
+either : (b : Bool) (x : Value) → cond b x x ≡ x
 either b x = search (rules, arith)
 
 -- NULL is stored as it is
@@ -74,21 +85,27 @@ source_edit table terms width params db = edit_of db table [] Chosen 0 (value_ro
 abbrev pub task_for : List Index → State → Table → Row → Task
 task_for extra old table params = record { limit = old.step_limit; keys = Enforced; schema = desk_with extra; table = table; params = params }
 
+concludes : (task : Task) (mode : Mode) (w : Written) (tally : Tally) (after : Database) → Concludes task mode None w (Ok (tally, after)) → after ≡ record { schema = task.schema; trees = w.trees }
+concludes task mode w tally after h = ap (λ (p : Tally × Database). p.1) (same_value (went (went h).2).2)
+
 -- a statement on the rows of a table writes the rows, and nothing more
 pub on_rows : (extra : List Index) (old : State) (params : Row) (text : List ℕ) (table : Table) (tally : Tally) (after : Database) (command : Command)
     → OnRows (task_for extra old table params) (mode_of old) None command old.now.trees (Ok (tally, after))
     → (w : Written) × WritesRows (task_for extra old table params) old.now.trees command (Ok w) × (after ≡ record { schema = desk_with extra; trees = w.trees })
 on_rows extra old params text table tally after command h =
-    let all = went h in (all.0, all.1, ap (λ (p : Tally × Database). p.1) (same_value (went (went all.2).2).2))
+    let all = went h in (all.0, all.1, concludes (task_for extra old table params) (mode_of old) all.0 tally after all.2)
 
 -- the rows of VALUES are inserted by one edit
 pub insert_edits : (task : Task) (terms : List Term) (width : ℕ) (db : Trees) (w : Written) → task.table.is_counted ≡ false → stamped task.table task.params ≡ task.params
     → Inserts task (Values terms width) db (Ok w) → Edited task.schema task.keys db (source_edit task.table terms width task.params db) (Ok w.trees)
 insert_edits task terms width db w uncounted unstamped h = search (rules, arith, same_value)
 
+no_action : (b : Bool) → (if b then NoAction else NoAction) ≡ NoAction
+no_action b = search (rules, arith)
+
 -- no foreign key of the desk has an action
 pub idle : (extra : List Index) (depth tree : ℕ) (olds news : List Row) → works (desk_with extra) Enforced depth tree olds news ≡ []
-idle extra depth tree olds news = search (rules, arith)
+idle extra depth tree olds news = simp no_action
 
 -- A statement that was run in a transaction that is ready.
 module _ (text : List ℕ) (params : Row) (old new : State) (command : Command) (count : ℕ) (ready : IsReady old)
@@ -217,10 +234,13 @@ module _ (extra : List Index) (are : AllByRecursion IsExtra extra) (old : State)
         subst (λ (t : Trees). Edited (desk_with extra) Enforced db edit (Ok t)) (sym (ap (λ (it : Written). it.trees) (same_value written.2))) written.1,
       )
 
+  judged : (new : Row) (db : Trees) (w : Written) (verdict : Option Refusal) → Judged (task_of extra old params) Abort (clauses q) new db verdict (Ok w)
+      → IsPutBy extra db params q new w.trees
+  judged new db w verdict h = search (rules, arith, ends)
+
   tried : (new : Row) (db : Trees) (w : Written) → Tries (task_of extra old params) Abort (clauses q) new db (Ok w) → IsPutBy extra db params q new w.trees
   tried new db w (inl h) = absurd (let e = h.1 in cc)
-  tried new db w (inr (None, judged, h)) = ends new db w h
-  tried new db w (inr (Some why, judged, h)) = absurd (let e = h in cc)
+  tried new db w (inr h) = judged new db w h.0 h.2
 
 -- one row of VALUES is tried, and no count is kept
 pub tries_one : (extra : List Index) (are : AllByRecursion IsExtra extra) (old : State) (params : Row) (q : Query) (terms : List Term) (width : ℕ) (db : Trees) (source : Row) (w : Written)

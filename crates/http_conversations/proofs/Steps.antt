@@ -47,10 +47,6 @@ sends h count x = grind (arith, append_assoc, take-append-drop)
 one : (P : Exchange → Type 0) (x : Exchange) → P x → All P (x ∷ [])
 one P x is k d within = grind arith
 
--- what holds of all exchanges holds with one more
-all_with : (P : Exchange → Type 0) (xs : List Exchange) (x : Exchange) → All P xs → P x → All P (xs ++ x ∷ [])
-all_with P xs x all is = All-append P xs (x ∷ []) all (one P x is)
-
 module _ (h : History) (is_open : h.stage ≡ Open) (x : IsServed h) where
   -- all that was not taken waits
   waits_all : h.waiting ≡ x.rest
@@ -59,6 +55,14 @@ module _ (h : History) (is_open : h.stage ≡ Open) (x : IsServed h) where
   -- all messages so far have pages, and none closes
   all_open : All (IsAnswered false) h.exchanges
   all_open = subst (λ s. AreAnswered s h.exchanges) is_open x.answered
+
+  -- all messages came in at the door, with one more
+  all_at_door : (e : Exchange) → e.door ≡ h.door → All (IsAt h.door) (h.exchanges ++ e ∷ [])
+  all_at_door e is = All-append (IsAt h.door) h.exchanges (e ∷ []) x.at_door (one (IsAt h.door) e is)
+
+  -- all were read in that mode, with one more
+  all_in_mode : (e : Exchange) → e.mode ≡ h.mode → All (IsBy h.mode) (h.exchanges ++ e ∷ [])
+  all_in_mode e is = All-append (IsBy h.mode) h.exchanges (e ∷ []) x.in_mode (one (IsBy h.mode) e is)
 
   -- the message is the first of what was not taken
   taken : (count : ℕ) (e : Exchange) → e.bytes ≡ take count h.waiting
@@ -85,7 +89,7 @@ module _ (h : History) (is_open : h.stage ≡ Open) (x : IsServed h) where
 
   -- the page closes, or does not
   answered : (c : Bool) (e : Exchange) → IsAnswered c e → AreAnswered (if c then Closing else Open) (h.exchanges ++ e ∷ [])
-  answered false e is = all_with (IsAnswered false) h.exchanges e all_open is
+  answered false e is = All-append (IsAnswered false) h.exchanges (e ∷ []) all_open (one (IsAnswered false) e is)
   answered true e is = (h.exchanges, e, refl, all_open, is)
 
   waits_then : (c : Bool) (bytes : List ℕ) → (if c then [] else bytes) ≡ kept (if c then Closing else Open) bytes
@@ -93,7 +97,7 @@ module _ (h : History) (is_open : h.stage ≡ Open) (x : IsServed h) where
 
   gets : (count : ℕ) (m : Said) (page : List ℕ) → Says h.mode (take count h.waiting) m → h.pending ≡ []
       → IsServed (after_answer h count page (closes h.door m.meant) (stops h.door m.meant))
-  gets count m page is free = grind (arith, taken, waits_then, answered, all_with (IsAt h.door), all_with (IsBy h.mode), asked_last, paged)
+  gets count m page is free = grind (arith, taken, waits_then, answered, all_at_door, all_in_mode, asked_last, paged)
 
   loses : (count : ℕ) (m : Said) → Says h.mode (take count h.waiting) m → IsServed (after_loss h count)
   loses count m is =
@@ -102,8 +106,8 @@ module _ (h : History) (is_open : h.stage ≡ Open) (x : IsServed h) where
         received = taken count e refl;
         waits = refl;
         answered = (h.exchanges, e ∷ [], refl, all_open, record { message = m; is_message = is; has_none = refl });
-        at_door = all_with (IsAt h.door) h.exchanges e x.at_door refl;
-        in_mode = all_with (IsBy h.mode) h.exchanges e x.in_mode refl;
+        at_door = all_at_door e refl;
+        in_mode = all_in_mode e refl;
         stopping = λ is. cc;
         sent = unpaged count;
       }

@@ -1,7 +1,6 @@
--- The text of the message that was read first, for first_wide; it is the one that is said first, and the text of an ask that bytes make
--- in a mode is no longer than a head and a body, for the laws.
-use Rattle.std.proofs.Common.{◌≡◌, ◌∙◌, ap, sym, subst, refl, inl, inr, ℕ, ◌≤◌, List, [], ◌++◌, length, take, drop, arith, append-nil, append_assoc, take-append-drop, false, ◌∷◌, Bool, true, Some, None, ◌-◌, if◌then◌else◌}
-use Rattle.std.proofs.lemmas.List.{append_cancel_right, take_all, length-drop, length-take}
+-- The text of the message that was read first. For first_wide.
+use Rattle.std.proofs.Common.{◌≡◌, ◌∙◌, ap, sym, subst, refl, inl, inr, ℕ, ◌≤◌, List, [], ◌++◌, length, take, drop, arith, append-nil, append_assoc, take-append-drop}
+use Rattle.std.proofs.lemmas.List.{append_cancel_right, take_all}
 use Rattle.httparse.specs.Grammar.{RequestHead, print_section}
 use Rattle.http1.specs.ChunkedBody.{print_chunks}
 use Rattle.http_messages.specs.Messages as sent
@@ -12,7 +11,7 @@ use Rattle.http_messages.specs.declared.requests.Message.TheVariants as message
 use Rattle.http_messages.specs.Bodies.{IsBody}
 use Rattle.http_messages.specs.Framing.{asked_kind}
 use Rattle.http_messages.specs.Wide as wide
-use Rattle.http_messages.specs.Wide.{BeginsWith, Wide, WideMessages, ends_with}
+use Rattle.http_messages.specs.Wide.{BeginsWith, Wide}
 use Rattle.http_messages.specs.declared.denials.Denial.{Denial}
 use Rattle.http_messages.specs.declared.denials.Denial.TheVariants.{TooLarge}
 use Rattle.http_messages.specs.declared.framing.BodyKind.{BodyKind}
@@ -21,22 +20,13 @@ use Rattle.http_messages.proofs.LawLemmas.{begins_with}
 use Rattle.http_messages.specs.WideReading.{IsFirstOf, IsOpen, IsWideMessage, rest_of}
 use Rattle.http_messages.specs.declared.wide_messages.WideMessage.TheVariants as taken
 use Rattle.http_messages.specs.declared.wide_messages.WideRequest.{WideRequest}
-use Rattle.http_messages.proofs.WideLemmas.{one_first}
-use Rattle.http_messages.specs.Heads.{Parts}
-use Rattle.http_messages.specs.Plain.{after_authority, has_empty_query, is_absolute, path_of, plain_target, without_empty_query, without_last}
-use Rattle.desk_http.specs.Laws.{HasShortAsk}
-use Rattle.desk_http.specs.Pages.{command_in}
-use Rattle.desk_http.specs.declared.doors.Door.{Door}
-use Rattle.desk_http.proofs.AskLemmas as profile
-use Rattle.desk_http.proofs.AskLemmas.{ask_length, target_short}
 use Rattle.http_conversations.specs.Reading.{IsFirstOfBy}
-use Rattle.http_conversations.specs.Modes.{IsSaidWidely, IsWideText, Says, unread, Means, Said}
+use Rattle.http_conversations.specs.Modes.{IsSaidWidely, IsWideText, Says, unread}
 use Rattle.http_conversations.specs.declared.modes.TheConstants.{MOST_TEXT}
 use Rattle.http_conversations.specs.declared.modes.Arrived.{Arrived}
 use Rattle.http_conversations.specs.declared.modes.Layout.{Layout}
 use Rattle.http_conversations.specs.declared.modes.Layout.TheVariants as layout
 use Rattle.http_conversations.specs.declared.modes.Mode.TheVariants as mode
-use Rattle.http_conversations.specs.declared.modes.Mode.{Mode}
 use Rattle.http_conversations.proofs.HeadLemmas.{some_head}
 
 -- the first message of the profile was read
@@ -71,8 +61,12 @@ split_body Chunked stream body rest is =
           after = section;
           reads = (chunked.reads.0, refl);
           decoded = chunked.decoded;
-          trailers =
-              record { last = ends.last; reads = (ends.reads.0, sym (append-nil section)); strict = ends.strict; within_limit = ends.within_limit };
+          trailers = record {
+            last = ends.last;
+            reads = (ends.reads.0, sym (append-nil section));
+            strict = ends.strict;
+            within_limit = ends.within_limit;
+          };
         };
         few = is.few;
         short = is.short;
@@ -86,10 +80,14 @@ text_of_request bytes count h body begins more =
     let rest = drop count bytes in
     let front = begins.2.front in
     let split = split_body begins.0 begins.1 body (rest ++ []) begins.3 in
+    let after : begins.1 ≡ split.0 ++ rest = split.1 ∙ ap (λ z. split.0 ++ z) (append-nil rest) in
     let whole : take count bytes ++ rest ≡ (front ++ split.0) ++ rest =
-    cc (take-append-drop count bytes, append-nil bytes, begins.2.begins.whole, split.1, append-nil rest, append_assoc front split.0 rest) in
+    take-append-drop count bytes ∙ sym (append-nil bytes) ∙ begins.2.begins.whole ∙ ap (λ z. front ++ z) after
+    ∙ sym (append_assoc front split.0 rest) in
     let same : take count bytes ≡ front ++ split.0 = append_cancel_right (take count bytes) (front ++ split.0) rest whole in
-    rw (same, append_assoc front split.0 more) (begins_with front split.0 body more h begins.0 begins.2.is_head begins.2.framed split.2)
+    subst (λ z. BeginsWith (z ++ more) (wide.Asks h body) more) (sym same)
+    (subst (λ z. BeginsWith z (wide.Asks h body) more) (sym (append_assoc front split.0 more))
+    (begins_with front split.0 body more h begins.0 begins.2.is_head begins.2.framed split.2))
 
 -- a request was read
 pub reads_request : (bytes : List ℕ) (r : WideRequest) (count : ℕ) → IsFirstOf bytes (taken.Asks r) count
@@ -99,6 +97,10 @@ reads_request bytes r count first = go first.sent first.is_taken first.begins
     go : (w : Wide) → IsWideMessage bytes (taken.Asks r) w
         → ((more : List ℕ) → BeginsWith (bytes ++ more) w (rest_of w (drop count bytes ++ more)))
         → IsFirstOfBy mode.Lenient bytes (record { message = message.Asks r.request; layout = layout.Wide r.kind }) count
+    go wide.NoMethod is begins = absurd is
+    go wide.NoHead is begins = absurd is
+    go (wide.Unread h why) is begins = absurd is
+    go (wide.BadBody h) is begins = absurd is
     go (wide.Asks h body) is begins =
         let head = some_head h body (begins []).2.is_head.reads.0.target.1 in
         record {
@@ -114,7 +116,6 @@ reads_request bytes r count first = go first.sent first.is_taken first.begins
             record { plain = head.0; parts = head.1; meant = refl; layout = refl },
           );
         }
-    go _ is begins = absurd is
 
 module _ (bytes : List ℕ) (found : Arrived × ℕ) where
   -- all of the bytes are a message that is not read
@@ -136,8 +137,10 @@ module _ (bytes : List ℕ) (found : Arrived × ℕ) where
           → ((more : List ℕ) → BeginsWith (bytes ++ more) w (rest_of w (drop count bytes ++ more)))
           → IsSaidWidely bytes (unread (layout.Denied why))
       go wide.NoMethod is begins = absurd is
+      go wide.NoHead is begins = (wide.NoHead, begins, (why, is, refl))
+      go (wide.Unread h reason) is begins = (wide.Unread h reason, begins, (why, is, refl))
+      go (wide.BadBody h) is begins = (wide.BadBody h, begins, (why, is, refl))
       go (wide.Asks h body) is begins = absurd is
-      go w is begins = (w, begins, (why, is, refl))
 
   -- a byte that begins no method
   pub reads_no_method : (count : ℕ) → IsFirstOf bytes taken.NoMethod count
@@ -148,63 +151,12 @@ module _ (bytes : List ℕ) (found : Arrived × ℕ) where
           → ((more : List ℕ) → BeginsWith (bytes ++ more) w (rest_of w (drop count bytes ++ more)))
           → IsSaidWidely bytes (unread layout.Nothing)
       go wide.NoMethod is begins = (wide.NoMethod, begins, refl)
-      go _ is begins = absurd is
+      go wide.NoHead is begins = absurd is
+      go (wide.Unread h reason) is begins = absurd is
+      go (wide.BadBody h) is begins = absurd is
+      go (wide.Asks h body) is begins = absurd is
 
   -- as many bytes as a message may have
   pub reads_too_long : IsOpen bytes → MOST_TEXT ≤ length bytes
       → found ≡ (record { message = message.NoHead; layout = layout.Denied TooLarge }, length bytes) → IsFirstOfBy mode.Lenient bytes found.0 found.1
   reads_too_long none long is = unread_by (layout.Denied TooLarge) is (inr (record { none = none; long = long; denied = refl }))
-
--- only a request has something after it
-after_request : (w : Wide) (more : List ℕ) → ends_with w ≡ false → rest_of w more ≡ more
-after_request (wide.Asks h body) more on = refl
-after_request _ more on = cc
-
-pub said_is_first : (bytes more : List ℕ) (w m : Wide) (later : List Wide) → IsWideText bytes w → WideMessages (bytes ++ more) (m ∷ later)
-    → (m ≡ w) × (ends_with w ≡ false → WideMessages more later)
-said_is_first bytes more w m later is are =
-    let first = one_first (bytes ++ more) m w are.0 (rest_of w more) are.1 (is more) in (
-      first.0,
-      λ on. subst (λ z. WideMessages z later) (first.1 ∙ after_request w more on) (are.3 (ap ends_with first.0 ∙ on)),
-    )
-
--- Targets.
-
-shorter_if : (t : Bool) (one other : List ℕ) (most : ℕ) → length one ≤ most → length other ≤ most → length (if t then one else other) ≤ most
-shorter_if true one other most first second = first
-shorter_if false one other most first second = second
-
-path_shorter : (target : List ℕ) → length (path_of target) ≤ length target
-path_shorter target =
-    shorter_if (is_absolute target) (after_authority target) target (length target) (omega (arith, length-drop {A = ℕ})) (omega arith)
-
-query_shorter : (path : List ℕ) → length (without_empty_query path) ≤ length path
-query_shorter path = shorter_if (has_empty_query path) (without_last path) path (length path) (omega (arith, length-take {A = ℕ})) (omega arith)
-
--- the target that is meant is no longer than the one that was sent
-plain_shorter : (target : List ℕ) → length (plain_target target) ≤ length target
-plain_shorter target = omega (arith, path_shorter target, query_shorter (path_of target))
-
--- Messages.
-
--- what is not read asks for nothing
-unread_asks : (door : Door) (l : Layout) (x : Said) → x ≡ unread l → HasShortAsk door x.meant
-unread_asks door l x is asked ask makes =
-    let bad : None ≡ Some (asked, Some ask) = sym (ap (λ (y : Said). command_in door y.meant) is) ∙ makes in cc
-
-meant_short : (door : Door) (bytes : List ℕ) (w : Wide) (x : Said) (more rest : List ℕ) → wide.BeginsWith (bytes ++ more) w rest
-    → Means bytes w x → HasShortAsk door x.meant
-meant_short door bytes wide.NoMethod x more rest begins means = unread_asks door _ x means
-meant_short door bytes wide.NoHead x more rest begins means = unread_asks door _ x means.2
-meant_short door bytes (wide.Unread h why) x more rest begins means = unread_asks door _ x means.2
-meant_short door bytes (wide.BadBody h) x more rest begins means = unread_asks door _ x means.2
-meant_short door bytes (wide.Asks h body) x more rest begins means = λ asked ask makes.
-    let here : command_in door (sent.Asks means.plain body) ≡ Some (asked, Some ask) = sym (ap (command_in door) means.meant) ∙ makes in
-    let same : length means.plain.target ≡ length (plain_target h.target) = ap (λ (p : Parts). length p.target) means.parts in
-    let head = target_short begins.2.front h begins.2.is_head in
-    omega (arith, ask_length door means.plain body asked ask here, same, plain_shorter h.target, head, begins.3.short)
-
-pub asks_are_short : (mode : Mode) (door : Door) (bytes : List ℕ) (x : Said) → Says mode bytes x → HasShortAsk door x.meant
-asks_are_short mode.Strict door bytes x says = profile.asks_are_short door (bytes ++ []) [] x.meant (says.0 [])
-asks_are_short mode.Lenient door bytes x (inl says) = meant_short door bytes says.0 x [] _ (says.1 []) says.2
-asks_are_short mode.Lenient door bytes x (inr long) = unread_asks door _ x long.denied

@@ -1,6 +1,13 @@
-pub mod HeadLemmas
-pub mod ValueLemmas
+pub mod FieldLemmas
+pub mod WordLemmas
+pub mod LengthLemmas
 pub mod ToldLemmas
+pub mod PlaceLemmas
+pub mod HeadLemmas
+pub mod FirstLemmas
+pub mod MessageLemmas
+pub mod BodyLemmas
 pub mod LawLemmas
 pub mod WideLemmas
+pub mod PlainLemmas
 pub mod WideFirstLemmas

@@ -1,12 +1,14 @@
 -- A head is decided where it ends, and not before.
-use Rattle.std.proofs.Common.{◌≡◌, ℕ, zero, suc, ◌-◌, ◌<◌, ◌≤◌, Bool, true, false, not, ◌&&◌, ◌||◌, ◌==◌, List, [], ◌∷◌, ◌++◌, map, length, take, drop, refl, sym, ap, subst, ◌∙◌, arith, append_assoc, flat_map, find, nat_eq, bytes_eq, if◌then◌else◌, IsTrue, Some, None, take-append-drop, length-append, append-nil, length-take-le, option_map}
+use Rattle.std.proofs.Common.{◌≡◌, ℕ, zero, suc, ◌-◌, ◌<◌, ◌≤◌, Bool, true, false, not, ◌&&◌, ◌||◌, ◌==◌, List, [], ◌∷◌, ◌++◌, map, length, take, drop, refl, sym, ap, subst, ◌∙◌, arith, append_assoc, flat_map, find, nat_eq, bytes_eq, if◌then◌else◌, IsTrue, Some, None, take-append-drop, length-append, append-nil}
 use Rattle.allotment.proofs.TestLemmas.{bytes_eq_self, same_bytes}
 use Rattle.std.proofs.Math.Seq.{drop-append_seam}
 use Rattle.http_messages.specs.Heads.{IsHead, most_head_bytes}
 use Rattle.std.specs.List.{list_any, list_all, ends_with, AllByRecursion}
 use Rattle.std.proofs.lemmas.Bool.{eqb-true, or_right, or_left, or_from, not-true, and_parts, and_from}
 use Rattle.std.proofs.lemmas.List.Elements.{recursion_from_All}
+use Rattle.std.proofs.lemmas.List.{length-take-le}
 use Rattle.std.proofs.lemmas.List.Folds.{list_any-append}
+use Rattle.std.specs.Prelude.{option_map}
 use Rattle.httparse.specs.Grammar.{RequestHead, Field, IsField, LineEnd, crlf, lf, print_end, print_blank, print_field, print_version, print_request, is_token_byte, is_uri_byte, is_value_byte, IsRequestHead}
 use Rattle.http_messages.specs.Messages.{ends_in_empty_line, is_newline, fronts, is_told, first_told}
 use Rattle.http_messages.specs.Places.{is_told_place, next_place, walk}

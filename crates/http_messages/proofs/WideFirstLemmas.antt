@@ -16,8 +16,9 @@ use Rattle.http_messages.specs.declared.denials.Denial.TheVariants.{BadHead, Too
 use Rattle.http_messages.specs.declared.framing.BodyKind.{BodyKind}
 use Rattle.http_messages.specs.declared.framing.BodyKind.TheVariants.{Chunked, Sized}
 use Rattle.http_messages.specs.declared.framing.Unframed.{Unframed}
-use Rattle.http_messages.proofs.LawLemmas.{begins, reach, same_kind}
+use Rattle.http_messages.proofs.BodyLemmas.{begins}
 use Rattle.http_messages.proofs.WideLemmas.{fronts, head_or_none, kind_same, not_both, not_framed_both}
+use Rattle.http_messages.proofs.LawLemmas.{reach, same_kind}
 use Rattle.http_messages.specs.WideHeads.{IsDeniedFront}
 use Rattle.http_messages.specs.Plain.{SaysPlainly}
 use Rattle.http_messages.specs.WideReading.{IsFirstOf, IsOpen, IsWideMessage}
@@ -26,7 +27,7 @@ use Rattle.http_messages.specs.declared.wide_messages.WideRequest.{WideRequest}
 use Rattle.std.specs.List.{list_any}
 use Rattle.std.proofs.lemmas.Bool.{cases_lt, and_parts}
 use Rattle.http_messages.proofs.HeadLemmas.{first_of_told, told_here}
-use Rattle.http_messages.proofs.ValueLemmas.{as_request}
+use Rattle.http_messages.proofs.PlainLemmas.{as_request}
 use Rattle.http_messages.proofs.ToldLemmas.{any_left, not_long}
 
 -- a byte that begins no method stays the first one

@@ -10,7 +10,8 @@ use Rattle.http_messages.specs.declared.framing.Unframed.{Unframed}
 use Rattle.http_messages.specs.Framing.{head_kind}
 use Rattle.http_messages.specs.Bodies.{IsBody}
 use Rattle.http_messages.specs.Wide.{Asks, BadBody, BeginsWith, BeginsWithFront, BeginsWithHead, HasNoBody, NoHead, NoMethod, Unread, Wide, WideMessages, ends_after}
-use Rattle.http_messages.proofs.LawLemmas.{one_body, begins_with, same_front, same_kind}
+use Rattle.http_messages.proofs.BodyLemmas.{one_body}
+use Rattle.http_messages.proofs.LawLemmas.{begins_with, same_front, same_kind}
 
 -- a test has one answer
 pub not_both : {b : Bool} → b ≡ true → b ≡ false → ⊥

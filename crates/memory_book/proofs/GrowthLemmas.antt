@@ -1,16 +1,6 @@
--- What a book in memory shows, by the state that it represents, and how one more event changes the parts that it keeps. For its reads,
--- its lists and counts, and each command; for `MemBook::begin`.
-use Rattle.std.proofs.Common.{◌≡◌, ℕ, zero, suc, ◌⊎◌, inl, inr, List, [], ◌∷◌, ◌++◌, length, map, refl, ap, sym, ◌∙◌, arith, slice_get, slice_set, Some, ◌<◌, subst, option_map, None, ◌+◌, ◌-◌, ◌≤◌, Bool, true, false, ◌&&◌, ◌↔◌, if◌then◌else◌, Option, is_some, Result, Ok, Err, IsTrue, not, filter, filter_map}
-use Rattle.std.proofs.Math.Seq.{map-set_same}
-use Rattle.std.proofs.lemmas.Option.{get_or_from_slice_get, slice_get-map, slice_get_past}
-use Rattle.ledger.specs.Answer.{State, Kept, Answer, kept_after, limited, most_events, state_with, answer, asker}
-use Rattle.ledger.specs.Ledger.{Event, journey_at, history, allotment, held, journeys, is_allowed, Began}
-use Rattle.ledger.proofs.Events.{history-none, length-more, journeys-began, history-began}
-use Rattle.saga_core.specs.Views.{brief_of, brief_of_journey, record_of, record_of_journey, Places, places_of, counts_of, is_unfinished_above, unfinished_of}
-use Rattle.memory_book.specs.Memory.{begun_as, brief_kept, record_kept, IsKept, StandsFor, batch_of, Tells, TellEach, IsCarriedOut}
-use Rattle.memory_book.specs.declared.journeys.Journey.{Journey}
-use Rattle.memory_book.specs.declared.mem_book.MemBook.{MemBook}
-use Rattle.std.specs.Prelude.{IsErr, MatchResult, unwrap_or}
+-- How one more event changes the parts that a book in memory keeps. For each command.
+use Rattle.std.proofs.Common.{◌≡◌, ℕ, ◌+◌, ◌-◌, ◌<◌, ◌≤◌, Bool, true, false, List, [], ◌∷◌, ◌++◌, length, map, ap, sym, ◌∙◌, subst, inl, inr, ◌&&◌, ◌↔◌, if◌then◌else◌, suc, slice_set, Option, Some, is_some, option_map, Result, Ok, Err, IsTrue, arith}
+use Rattle.std.specs.Prelude.{IsErr, MatchResult}
 use Rattle.std.specs.List.{cons_option}
 use Rattle.std.proofs.lemmas.Bool.{lt-leb, le-leb, and_right, cases_lt}
 use Rattle.std.proofs.lemmas.List.Elements.{filter_map-append}
@@ -19,84 +9,18 @@ use Rattle.commands.specs.Asks.{Asked}
 use Rattle.commands.specs.declared.replies.Refusal.{Refusal}
 use Rattle.commands.specs.declared.replies.Refusal.TheVariants.{Limit}
 use Rattle.commands.specs.declared.replies.Reply.{Reply}
-use Rattle.ledger.specs.Replies.{refused, answer_begin}
+use Rattle.ledger.specs.Answer.{State, Kept, Answer, kept_after, limited, most_events, state_with}
+use Rattle.ledger.specs.Replies.{refused}
+use Rattle.ledger.specs.Ledger.{Event, allotment, held, history, journeys, is_allowed}
 use Rattle.ledger.proofs.Growing.{IsLegal-append}
+use Rattle.ledger.proofs.Events.{length-more}
+use Rattle.saga_core.specs.Views.{Places, places_of}
+use Rattle.memory_book.specs.Memory.{begun_as, batch_of, Tells, TellEach, StandsFor, IsCarriedOut}
 use Rattle.memory_book.specs.MemoryAnswers.{kept_in, AreKeptAlike}
 use Rattle.memory_book.specs.MemoryStock.{stock_at}
-use Rattle.std.proofs.lemmas.List.{length-map, map-append}
-use Rattle.plan.specs.PlanModel.{Planned, is_plan}
-use Rattle.commands.specs.Names.{house}
-use Rattle.commands.specs.Request as request
-use Rattle.commands.specs.declared.replies.Reply.TheVariants as reply
-use Rattle.ledger.proofs.Allotments.{allotment-began}
-use Rattle.ledger.proofs.PlacesMoved.{held-began}
-use Rattle.allotment.specs.Cells.{numbers_from}
-use Rattle.ledger.specs.History.{is_finished}
-use Rattle.saga_core.specs.declared.records.Brief.{Brief}
-use Rattle.saga_core.specs.declared.records.Counts.{Counts}
-use Rattle.saga_core.proofs.BriefLemmas.{all_above, briefs_of, rises}
-
--- an element of a list with one appended is one of the others or the last
-pub place_of-push : {X : Type 0} (xs : List X) (x : X) (i : ℕ) (y : X)
-    → slice_get (xs ++ x ∷ []) i ≡ Some y
-    → (slice_get xs i ≡ Some y) ⊎ ((i ≡ length xs) × (y ≡ x))
-place_of-push [] x zero y e = inr (refl, cc)
-place_of-push [] x (suc i) y e = cc
-place_of-push (z ∷ xs) x zero y e = inl e
-place_of-push (z ∷ xs) x (suc i) y e = grind (arith, place_of-push xs x i y e)
-
--- an element of a list of which one was replaced is that one, or another, which is as it was
-pub place_of-set : {X : Type 0} (xs : List X) (p : ℕ) (x : X) (i : ℕ) (y : X)
-    → slice_get (slice_set xs p x) i ≡ Some y
-    → ((i ≡ p) × (y ≡ x)) ⊎ ((i ≡ p → ⊥) × (slice_get xs i ≡ Some y))
-place_of-set [] p x i y e = cc
-place_of-set (z ∷ xs) zero x zero y e = inl (refl, cc)
-place_of-set (z ∷ xs) zero x (suc i) y e = inr (λ (h : suc i ≡ zero). omega arith, e)
-place_of-set (z ∷ xs) (suc p) x zero y e = inr (λ (h : zero ≡ suc p). omega arith, e)
-place_of-set (z ∷ xs) (suc p) x (suc i) y e = grind (arith, place_of-set xs p x i y e)
-
--- a function has the same values on the list, where it has the same value on the element that was replaced
-pub map-set : {X Y : Type 0} (f : X → Y) (xs : List X) (p : ℕ) (x y : X)
-    → slice_get xs p ≡ Some y → f x ≡ f y → map f (slice_set xs p x) ≡ map f xs
-map-set f xs p x y at same =
-    map-set_same f xs p x y (same ∙ ap f (sym (get_or_from_slice_get xs p y y at)))
-
--- the journey at a place is the journey with the next number
-pub journey_at-kept : (m : MemBook) (s : State) → StandsFor m s → (place : ℕ) (k : Journey)
-    → slice_get m.journeys.items place ≡ Some k
-    → journey_at s.ledger (suc place) ≡ Some (begun_as k)
-journey_at-kept m s here place k at =
-    ap (λ js. slice_get js place) (sym here.begun)
-    ∙ slice_get-map begun_as m.journeys.items place ∙ ap (option_map begun_as) at
-
--- no journey has number 0, or a number above the last
-pub journey_at-past : (m : MemBook) (s : State) → StandsFor m s → (id : ℕ)
-    → (id ≡ 0) ⊎ (length m.journeys.items < id) → journey_at s.ledger id ≡ None
-journey_at-past m s here id past = grind (arith, slice_get-map, slice_get_past)
-
--- a journey that does not exist has no items
-pub history-past : (m : MemBook) (s : State) → StandsFor m s → (id : ℕ)
-    → (id ≡ 0) ⊎ (length m.journeys.items < id) → history s.ledger id ≡ []
-history-past m s here id past =
-    history-none s.ledger id here.legal (journey_at-past m s here id past)
-
--- the journey at a place is the one with the next number
-pub is_kept : (m : MemBook) (s : State) → StandsFor m s → (place : ℕ) (k : Journey)
-    → slice_get m.journeys.items place ≡ Some k → (j : ℕ) → j ≡ suc place → IsKept s.ledger j k
-is_kept m s here place k at j is =
-    subst (λ n. IsKept s.ledger n k) (sym is) (record { at = journey_at-kept m s here place k at; told = here.told place k at })
-
--- what is kept of a journey is what the ledger shows of it
-pub record_of-kept : (l : List Event) (j : ℕ) (k : Journey) → IsKept l j k → record_of l j ≡ Some (record_kept k)
-record_of-kept l j k is =
-    ap (option_map (record_of_journey (history l j))) is.at
-    ∙ (λ i. Some (record { agent = k.agent; plan = k.plan; cursor = sym is.told.cursor i; marks = sym is.told.marks i }))
-
--- and its summary
-pub brief_of-kept : (l : List Event) (j : ℕ) (k : Journey) → IsKept l j k → brief_of l j ≡ Some (brief_kept k)
-brief_of-kept l j k is =
-    ap (option_map (brief_of_journey j (history l j))) is.at
-    ∙ (λ i. Some (record { id = sym is.told.number i; agent = k.agent; cursor = sym is.told.cursor i }))
+use Rattle.memory_book.specs.declared.journeys.Journey.{Journey}
+use Rattle.memory_book.specs.declared.mem_book.MemBook.{MemBook}
+use Rattle.memory_book.proofs.PlaceLemmas.{place_of-set}
 
 -- Places.
 
@@ -190,89 +114,4 @@ keeps_book m n s here begun told stock batches kept events = record {
   kept = λ agent key. kept agent key ∙ here.kept agent key;
   events = events ∙ here.events;
   legal = here.legal;
-}
-
--- the book keeps as many journeys as the ledger has
-pub length-begun : (m : MemBook) (s : State) → StandsFor m s
-    → length m.journeys.items ≡ length (journeys s.ledger)
-length-begun m s here = sym (length-map m.journeys.items begun_as) ∙ ap length here.begun
-
--- the agent to whom a journey begun by this asker belongs
-abbrev pub owner : Option Asked → List ℕ
-owner ask = unwrap_or (asker ask) house
-
--- one more journey is begun in the book, after so many others, and the reply with its number is kept
-pub record BeginsIn (m n : MemBook) (ask : Option Asked) (plan : Planned) (count : ℕ) : Type 0 where
-  pub counted : count ≡ length m.journeys.items
-  pub journey : Journey
-  pub grown : n.journeys.items ≡ m.journeys.items ++ journey ∷ []
-  pub begun : begun_as journey ≡ record { agent = owner ask; plan = plan }
-  pub told : Tells journey (count + 1) []
-  pub stock : n.stock ≡ m.stock
-  pub parts : Grows m n ask (reply.Begun (count + 1)) (Began (owner ask) plan)
-
--- so a begin is answered with the next number, where the ledger has room
-pub carried_out-begun : (m n : MemBook) (s : State) (ask : Option Asked) (plan : Planned) (count : ℕ)
-    → StandsFor m s → IsTrue (is_plan plan) → BeginsIn m n ask plan count → m.events < most_events
-    → IsCarriedOut n s ask (answer s.ledger (asker ask) (request.Begin plan)) (reply.Begun (count + 1))
-carried_out-begun m n s ask plan count here good b room =
-    let small : length s.ledger < most_events = omega (arith, here.events) in
-    let numbered = b.counted ∙ length-begun m s here in
-    let made = stands-grown m n s ask (reply.Begun (count + 1)) (Began (owner ask) plan) here good b.parts begun told stock in
-    subst (λ (a : Answer). IsCarriedOut n s ask a (reply.Begun (count + 1)))
-    (sym (limited-room s.ledger (answer_begin s.ledger (asker ask) plan) small))
-    (record {
-      replied = ap (λ i. reply.Begun (i + 1)) numbered;
-      stands = subst (λ i. StandsFor n (state_with s ask (reply.Begun (i + 1)) (Some (Began (owner ask) plan)))) numbered made;
-    })
-  where
-    begun : map begun_as n.journeys.items ≡ journeys (s.ledger ++ Began (owner ask) plan ∷ [])
-    begun = grind (arith, map-append, journeys-began)
-
-    told : TellEach n.journeys.items (s.ledger ++ Began (owner ask) plan ∷ [])
-    told i k at =
-        subst (Tells k (suc i)) (sym (history-began s.ledger (owner ask) plan (suc i)))
-        (elim (place_of-push m.journeys.items b.journey i k
-        (ap (λ js. slice_get js i) (sym b.grown) ∙ at)) [
-          | inl there ↦ here.told i k there
-          | inr last ↦ (
-              let number : count + 1 ≡ suc i = omega (arith, b.counted, last.0) in
-              subst (Tells k (suc i)) (sym (history-past m s here (suc i) (inr (omega (arith, last.0)))))
-              (subst (λ (j : Journey). Tells j (suc i) []) (sym last.1) (subst (λ j. Tells b.journey j []) number b.told)))
-        ])
-
-    stock : (x : Cell) → stock_at n.stock x ≡ places_of (s.ledger ++ Began (owner ask) plan ∷ []) x
-    stock x = grind (arith, places_of-parts, held-began, allotment-began)
-
--- the ledger shows the summaries of these journeys, numbered from the first on
-briefs-each : (l : List Event) (ks : List Journey) (first : ℕ)
-    → ((i : ℕ) (k : Journey) → slice_get ks i ≡ Some k → (j : ℕ) → j ≡ first + i → IsKept l j k)
-    → map brief_kept ks ≡ filter_map (brief_of l) (numbers_from first (length ks))
-briefs-each l [] first each = refl
-briefs-each l (k ∷ ks) first each =
-    let later = briefs-each l ks (suc first) (λ i x at j e. each (suc i) x at j (omega arith)) in
-    λ i. cons_option (sym (brief_of-kept l first k (each 0 k refl first (omega arith))) i) (later i)
-
--- the summaries of the journeys that are kept are those that the ledger shows
-pub briefs-kept : (m : MemBook) (s : State) → StandsFor m s → map brief_kept m.journeys.items ≡ briefs_of s.ledger
-briefs-kept m s here =
-    briefs-each s.ledger m.journeys.items 1 (λ i k at j e. is_kept m s here i k at j (omega arith))
-    ∙ ap (λ n. filter_map (brief_of s.ledger) (numbers_from 1 n)) (length-begun m s here)
-
--- the unfinished journeys are among them
-pub unfinished-kept : (m : MemBook) (s : State) → StandsFor m s
-    → filter (is_unfinished_above 0) (map brief_kept m.journeys.items) ≡ unfinished_of s.ledger
-unfinished-kept m s here =
-    ap (filter (is_unfinished_above 0)) (briefs-kept m s here)
-    ∙ all_above (λ (b : Brief). not (is_finished b.cursor.phase)) 0 (briefs_of s.ledger) (rises s.ledger)
-
--- the numbers that are kept are those of the ledger
-pub counts-kept : (m : MemBook) (s : State) (counts : Counts) → StandsFor m s → counts.events ≡ m.events
-    → counts.journeys ≡ length m.journeys.items
-    → counts.unfinished ≡ length (filter (is_unfinished_above 0) (map brief_kept m.journeys.items))
-    → counts ≡ counts_of s.ledger
-counts-kept m s counts here events journeys_are unfinished = λ i. record {
-  events = (events ∙ here.events) i;
-  journeys = (journeys_are ∙ length-begun m s here) i;
-  unfinished = (unfinished ∙ ap length (unfinished-kept m s here)) i;
 }

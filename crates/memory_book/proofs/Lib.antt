@@ -1,5 +1,15 @@
 pub mod CellLemmas
+pub mod KeptLemmas
+pub mod RowLemmas
+pub mod JourneyLemmas
+pub mod PlaceLemmas
+pub mod StandLemmas
 pub mod GrowthLemmas
+pub mod BeginLemmas
+pub mod UnfinishedLemmas
+pub mod TellLemmas
+pub mod MoveLemmas
 pub mod StepLemmas
 pub mod ReadyLemmas
+pub mod ActLemmas
 pub mod LoadLemmas

@@ -1,12 +1,5 @@
--- The outcome of a request with or without a known key, and how a load changes a book in memory. For `execute` and `MemBook::load`.
-use Rattle.std.proofs.Common.{◌≡◌, Option, Some, None, option_map, arith, ℕ, suc, ◌-◌, ◌<◌, Bool, true, false, cond, List, [], ◌∷◌, ◌++◌, length, map, refl, ap, sym, ◌∙◌, subst, not, bytes_eq, nat_le, nat_lt, if◌then◌else◌, slice_get, find, filter_map, position}
-use Rattle.commands.specs.Asks.{Asked}
-use Rattle.commands.specs.Request.{Request}
-use Rattle.commands.specs.declared.replies.Reply.{Reply}
-use Rattle.ledger.specs.Answer.{State, outcome, kept_for, answered_again, text_of, carried_out, answer, asker, limited, most_events, state_with}
-use Rattle.memory_book.specs.Memory.{Gives, StandsFor, begun_as, Tells, loads, IsCarriedOut}
-use Rattle.memory_book.specs.MemoryAnswers.{kept_in, found_for}
-use Rattle.memory_book.specs.declared.mem_book.MemBook.{MemBook}
+-- How a load changes a book in memory. For `MemBook::load`.
+use Rattle.std.proofs.Common.{◌≡◌, ℕ, suc, ◌-◌, ◌<◌, Bool, true, false, cond, List, [], ◌∷◌, ◌++◌, length, map, refl, ap, sym, ◌∙◌, subst, arith, not, bytes_eq, nat_le, nat_lt, if◌then◌else◌, slice_get, find, filter_map, position, Option, Some, None, option_map}
 use Rattle.std.specs.Prelude.{unwrap_or}
 use Rattle.std.specs.List.{cons_option}
 use Rattle.std.specs.Cmp.Lexicographic.{nat_list_eq_equiv}
@@ -14,8 +7,11 @@ use Rattle.std.proofs.lemmas.Option.{same_Some}
 use Rattle.std.proofs.lemmas.Bool.Decides.{nat_tests}
 use Rattle.allotment.specs.declared.cells.Cell.{Cell}
 use Rattle.allotment.specs.declared.cells.Row.{Row}
+use Rattle.commands.specs.Asks.{Asked}
 use Rattle.commands.specs.BatchData.{Batched}
+use Rattle.commands.specs.declared.replies.Reply.{Reply}
 use Rattle.commands.specs.Request as request
+use Rattle.ledger.specs.Answer.{State, answer, asker, limited, most_events, state_with}
 use Rattle.ledger.specs.Replies.{Answer, answer_known, answer_load, answer_new, loaded}
 use Rattle.ledger.proofs.Answers.{IsAllowedEvent, answer-allowed}
 use Rattle.ledger.specs.Ledger.{Event, Loaded, Began, Did, batches_named, allotment, held, is_not_below_held, is_batch, IsLegal}
@@ -24,26 +20,11 @@ use Rattle.ledger.proofs.Events.{journeys-loaded, history-loaded}
 use Rattle.ledger.proofs.PlacesMoved.{held-loaded, held_within, held_none}
 use Rattle.saga_core.specs.Views.{Places, places_of}
 use Rattle.memory_book.specs.MemoryStock.{stock_at, is_below_in, set_to, LoadsRows, last_row}
+use Rattle.memory_book.specs.Memory.{begun_as, Tells, loads, StandsFor, IsCarriedOut}
 use Rattle.memory_book.specs.declared.stock.Stock.{Stock}
+use Rattle.memory_book.specs.declared.mem_book.MemBook.{MemBook}
 use Rattle.memory_book.proofs.GrowthLemmas.{Grows, places_left, places_of-parts, limited-room, stands-grown}
 use Rattle.ledger.specs.JourneyChanges.{newer}
-
--- the reply that the book keeps for a request is the one that the state keeps
-found_for-kept : (m : MemBook) (s : State) → StandsFor m s → (ask : Option Asked)
-    → found_for (kept_in m.answers) ask ≡ kept_for s ask
-found_for-kept m s here ask = grind arith
-
-module _ (m : MemBook) (s : State) (ask : Option Asked) (asked : Request) where
-  -- where a reply is kept, it is the reply, and nothing changes
-  pub again-known : (r : Reply) → StandsFor m s
-      → Some r ≡ option_map (λ k. (answered_again s (text_of ask) k).reply) (found_for (kept_in m.answers) ask)
-      → Gives m (outcome s ask asked) r
-  again-known r here is = grind (arith, found_for-kept)
-
-  -- where none is kept, the request is answered
-  pub outcome-new : StandsFor m s → None ≡ option_map (λ k. (answered_again s (text_of ask) k).reply) (found_for (kept_in m.answers) ask)
-      → outcome s ask asked ≡ carried_out s ask (answer s.ledger (asker ask) asked)
-  outcome-new here is = grind (arith, found_for-kept)
 
 -- Known batches.
 

@@ -38,7 +38,7 @@ use Rattle.saga_core.specs.Rulings.{Fits}
 use Rattle.std.specs.FinSet as set
 use Rattle.std.specs.Ordering.{nat_cmp}
 use Rattle.memory_book.specs.Memory.{begun_as, Tells, StandsFor, IsSeenAt, IsMove}
-use Rattle.memory_book.proofs.GrowthLemmas.{journey_at-kept}
+use Rattle.memory_book.proofs.StandLemmas.{journey_at-kept}
 use Rattle.memory_book.specs.declared.journeys.Journey.{Journey}
 use Rattle.memory_book.specs.declared.mem_book.MemBook.{MemBook}
 

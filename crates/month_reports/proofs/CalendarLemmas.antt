@@ -13,16 +13,14 @@ use Rattle.month_reports.specs.Months.{Places}
 abbrev pub Shows : List ℕ → List Places → Type 0
 Shows marks month = (day : ℕ) → day < 31 → get_or marks day blank ≡ mark_on month (day + 1)
 
--- what the days from one on have, the day that is so many later has
-numbered : (f : ℕ → ℕ) (first n i : ℕ) → i < n → get_or (map f (numbers_from first n)) i blank ≡ f (first + i)
-numbered f first zero i small = absurd (omega (arith, small))
-numbered f first (suc n) zero small = ap f (let e : first ≡ first + 0 = omega arith in e)
-numbered f first (suc n) (suc i) small =
-    numbered f (suc first) n i (omega (arith, small)) ∙ ap f (let e : suc first + i ≡ first + suc i = omega arith in e)
-
 -- at first each day is blank
 pub shows_none : Shows (map (λ (day : ℕ). blank) (numbers_from 1 31)) []
-shows_none day small = numbered (λ (n : ℕ). blank) 1 31 day small
+shows_none day small = blanks 1 31 day small
+  where
+    blanks : (first n i : ℕ) → i < n → get_or (map (λ (day : ℕ). blank) (numbers_from first n)) i blank ≡ blank
+    blanks first zero i small = absurd (omega (arith, small))
+    blanks first (suc n) zero small = refl
+    blanks first (suc n) (suc i) small = blanks (suc first) n i (omega (arith, small))
 
 -- a night before the others sets the mark on its day, and no other
 pub shows_more : (marks : List ℕ) (month : List Places) (row : Places) (place : ℕ)
@@ -39,7 +37,22 @@ pub shows_all : (marks : List ℕ) (month : List Places) → length marks ≡ 31
 shows_all marks month long shown =
     ext_get_or blank marks (marks_of month) long (λ day within.
     shown day (omega (arith, long, within)) ∙ sym (numbered (mark_on month) 1 31 day (omega (arith, long, within))
-    ∙ ap (mark_on month) (let e : 1 + day ≡ day + 1 = omega arith in e)))
+    ∙ ap (mark_on month) (one_more day)))
+  where
+    one_more : (day : ℕ) → 1 + day ≡ day + 1
+    one_more day = omega arith
+
+    at_first : (first : ℕ) → first ≡ first + 0
+    at_first first = omega arith
+
+    at_next : (first i : ℕ) → suc first + i ≡ first + suc i
+    at_next first i = omega arith
+
+    numbered : (f : ℕ → ℕ) (first n i : ℕ) → i < n → get_or (map f (numbers_from first n)) i blank ≡ f (first + i)
+    numbered f first zero i small = absurd (omega (arith, small))
+    numbered f first (suc n) zero small = ap f (at_first first)
+    numbered f first (suc n) (suc i) small =
+        numbered f (suc first) n i (omega (arith, small)) ∙ ap f (at_next first i)
 
 -- what was gone through from the last one on, one more
 pub reversed_more : {A B : Type 0} (v : A → B) (xs : List A) (x : A) → reverse (map v (xs ++ x ∷ [])) ≡ v x ∷ reverse (map v xs)

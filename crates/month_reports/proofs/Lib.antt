@@ -1,3 +1,5 @@
 pub mod CalendarLemmas
+pub mod DayLemmas
 pub mod MonthLemmas
 pub mod OrderLemmas
+pub mod RunLemmas

@@ -1,7 +1,7 @@
 -- Months that are read one cell after another. For reading a month.
-use Rattle.std.proofs.Common.{◌≡◌, refl, ℕ, ◌+◌, ◌≤◌, true, false, List, [], ◌∷◌, ◌++◌, append_assoc, arith, Option, Some, None, IfSome, ◌-◌}
+use Rattle.std.proofs.Common.{◌≡◌, refl, ℕ, ◌+◌, ◌≤◌, true, false, List, [], ◌∷◌, ◌++◌, append_assoc, arith, Option, Some, None}
 use Rattle.std.proofs.lemmas.Bool.{and_parts, ltb-true}
-use Rattle.allotment.specs.Nights.{date_of, month_and_day}
+use Rattle.allotment.specs.Nights.{date_of}
 use Rattle.allotment.specs.declared.cells.Cell.{Cell}
 use Rattle.saga_core.specs.RowSources.{Hands, HandsFirst}
 use Rattle.saga_core.specs.CellFilters.{is_cell_asked}
@@ -45,26 +45,36 @@ pub reads_one : (rests : List Places → Type 0) (first : Places) → Reading re
 reads_one rests first = record { rest = λ later is. (later, is, refl) }
 
 -- one more cell was read
-pub reads_more : {rested between rests : List Places → Type 0} {first : Places} {cells : List Places} (row : Places)
+pub reads_more : (rested between rests : List Places → Type 0) (first : Places) (cells : List Places) (row : Places)
     → Reading rested between first cells → Hands between rests (Some row)
     → Reading rested rests first (cells ++ row ∷ [])
-reads_more row reading hands = grind (arith, append_assoc, reading.rest)
+reads_more rested between rests first cells row reading hands = grind (arith, append_assoc, reading.rest)
 
--- the source has no more cells, or the next one does not go on with the month: the month ends before it
-pub hands_month : {rested between rests : List Places → Type 0} {first : Places} {cells : List Places} {last : Cell} (found : Option Places)
-    → Reading rested between first cells → Begins cells last → Hands between rests found
-    → IfSome found (λ (row : Places). goes_on last row.0 ≡ false)
-    → Hands (MonthsRest rested (Some first)) (MonthsRest rests found) (Some cells)
-hands_month {rested} {between} {rests} {first} {cells} {last} found reading begun hands apart = λ months rest.
+-- the source has no more cells: the month is the last
+pub hands_last : (rested between rests : List Places → Type 0) (first : Places) (cells : List Places) (last : Cell)
+    → Reading rested between first cells → Begins cells last → Hands between rests None
+    → Hands (MonthsRest rested (Some first)) (MonthsRest rests None) (Some cells)
+hands_last rested between rests first cells last reading begun hands = λ months rest.
     let now = reading.rest rest.0 rest.1 in
-    by found rest.0 months rest.2 now.0 now.1 now.2 hands apart
+    by rest.0 months rest.2 now.0 now.1 now.2
   where
-    by : (found : Option Places) (later : List Places) (months : List (List Places)) → months ≡ months_of (first ∷ later)
+    by : (later : List Places) (months : List (List Places)) → months ≡ months_of (first ∷ later)
         → (others : List Places) → between others → first ∷ later ≡ cells ++ others
-        → Hands between rests found → IfSome found (λ (row : Places). goes_on last row.0 ≡ false)
-        → HandsFirst (MonthsRest rests found) (Some cells) months
-    by None later months is others rest cut hands apart = grind (arith, hands, begun.ends)
-    by (Some row) later months is others rest cut hands apart = grind (arith, hands, begun.ends)
+        → HandsFirst (MonthsRest rests None) (Some cells) months
+    by later months is others rest cut = grind (arith, hands, begun.ends)
+
+-- the next cell does not go on with the month: it begins the next one
+pub hands_month : (rested between rests : List Places → Type 0) (first : Places) (cells : List Places) (last : Cell) (row : Places)
+    → Reading rested between first cells → Begins cells last → Hands between rests (Some row) → goes_on last row.0 ≡ false
+    → Hands (MonthsRest rested (Some first)) (MonthsRest rests (Some row)) (Some cells)
+hands_month rested between rests first cells last row reading begun hands apart = λ months rest.
+    let now = reading.rest rest.0 rest.1 in
+    by rest.0 months rest.2 now.0 now.1 now.2
+  where
+    by : (later : List Places) (months : List (List Places)) → months ≡ months_of (first ∷ later)
+        → (others : List Places) → between others → first ∷ later ≡ cells ++ others
+        → HandsFirst (MonthsRest rests (Some row)) (Some cells) months
+    by later months is others rest cut = grind (arith, hands, begun.ends)
 
 -- the first cell of all was read: the months of all remain
 pub first_read : (rested rests : List Places → Type 0) (found : Option Places) (all : List Places)
@@ -117,8 +127,3 @@ module _ (f : CellFilter) (rested between rests : List Places → Type 0) (row :
   -- it is asked for: it is the first of those
   pub asked_some : is_cell_asked f row.0 ≡ true → Hands (AskedRest f rested) (AskedRest f rests) (Some row)
   asked_some passed = grind (arith, first_of)
-
--- the day of a month is counted from 1
-pub day_from_one : (month : ℕ) (ms : List ℕ) (over : ℕ) → 1 ≤ (month_and_day month ms over).1
-day_from_one month [] over = omega arith
-day_from_one month (days ∷ later) over = grind (arith, day_from_one (month + 1) later (over - days))

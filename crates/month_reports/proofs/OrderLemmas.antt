@@ -1,22 +1,20 @@
--- What stands between two cells of one product and one month; in the order of the stock no two months are alike. For the law of months.
-use Rattle.std.proofs.Common.{rules, ◌≡◌, ◌∙◌, ap, sym, subst, refl, ℕ, ◌+◌, ◌-◌, ◌<◌, ◌≤◌, Bool, true, false, List, [], ◌∷◌, arith, ◌==◌, ◌&&◌, nat_lt, bytes_eq, if◌then◌else◌, filter}
+-- What stands between two cells of one product and one month. For the law of months.
+use Rattle.std.proofs.Common.{◌≡◌, ◌∙◌, ap, sym, subst, refl, ℕ, ◌+◌, ◌-◌, ◌<◌, ◌≤◌, Bool, true, false, List, [], ◌∷◌, arith, ◌==◌, ◌&&◌, nat_lt, bytes_eq, if◌then◌else◌}
 use Rattle.std.specs.Ordering.{is_eq, is_lt, nat_cmp, on, ordering_then, then_cmp}
 use Rattle.std.specs.declared.cmp.Ordering.{Ordering}
 use Rattle.std.specs.declared.cmp.Ordering.TheVariants.{Less, Equal}
 use Rattle.std.specs.Cmp.{IsTotalOrder, tied_then, unsigned_ties}
 use Rattle.std.specs.Cmp.Lexicographic.{slice_cmp, texts_ties}
-use Rattle.std.proofs.lemmas.Bool.{cases_Bool, false_from_ne_true, and_from, and_parts, both_ways, eq-eqb, eqb-true, false≢true, lt-ltb, ltb-false, ltb-true}
+use Rattle.std.proofs.lemmas.Bool.{and_from, and_parts, both_ways, eq-eqb, eqb-true, false≢true, lt-ltb, ltb-false, ltb-true}
 use Rattle.std.proofs.lemmas.Cmp.{alike_right, nat_cmp_total, nat_list_cmp_total, on_total, then_total}
 use Rattle.allotment.specs.Cells.{kind_number}
 use Rattle.allotment.specs.Limits.{first_night, is_night}
 use Rattle.allotment.specs.Nights.{date_of, days_before, month_and_day, months, year_of}
 use Rattle.allotment.specs.declared.cells.Cell.{Cell}
-use Rattle.allotment.proofs.TestLemmas.{list_all_weaker}
 use Rattle.allotment.proofs.NightLemmas.{is_civil, night_range}
-use Rattle.saga_core.specs.Views.{cell_cmp, are_in_order}
-use Rattle.month_reports.specs.Laws.{is_same_month, are_apart, cells_in, have_nights, is_apart}
-use Rattle.month_reports.specs.Months.{goes_on, is_later_day, is_product, before_first, is_followed, months_of, Places}
-use Rattle.std.specs.List.{list_all}
+use Rattle.saga_core.specs.Views.{cell_cmp}
+use Rattle.month_reports.specs.Laws.{is_same_month}
+use Rattle.month_reports.specs.Months.{goes_on, is_later_day, is_product}
 
 -- Products.
 
@@ -167,94 +165,20 @@ same_as x y z same =
 -- the next cell does not go on with the month: it is of another one
 pub apart_next : (x y : Cell) → is_night x.night ≡ true → is_lt (cell_cmp x y) ≡ true → goes_on x y ≡ false
     → is_same_month x y ≡ false
-apart_next x y night less ends = false_from_ne_true (is_same_month x y) (λ same.
-    let alike = of_month x y same in
-    both_ways (goes_on x y) ends (and_from (is_product x y) _ alike.product
-    (later_in_month x.night y.night y.night night (later_night x y less alike.product) (omega arith) alike.year alike.month)))
+apart_next x y night less ends = by (is_same_month x y) refl
+  where
+    by : (b : Bool) → is_same_month x y ≡ b → b ≡ false
+    by b same = grind (arith, of_month, later_night, both_ways, and_from, later_in_month)
 
 -- and each cell after the next one is of another month too
 pub apart_later : (x y z : Cell) → is_night x.night ≡ true → is_lt (cell_cmp x y) ≡ true → is_lt (cell_cmp y z) ≡ true
     → goes_on x y ≡ false → is_same_month x z ≡ false
-apart_later x y z night first second ends = false_from_ne_true (is_same_month x z) (λ same.
-    let alike = of_month x z same in
-    let found = between x y z first second alike.product in
-    both_ways (goes_on x y) ends (and_from (is_product x y) _ found.product
-    (later_in_month x.night y.night z.night night found.after (omega (arith, found.before)) alike.year alike.month)))
-
--- The months of a list have its cells, and in the order of the stock no two of them are alike.
-
--- Lists.
-
--- what holds of each element holds of those that are kept
-pub list_all-filter : {X : Type 0} (p keep : X → Bool) (xs : List X) → list_all p xs ≡ true → list_all p (filter keep xs) ≡ true
-list_all-filter p keep [] all = refl
-list_all-filter p keep (x ∷ xs) all = search (rules, arith, cases_Bool, and_parts, and_from, list_all-filter p keep xs)
-
--- cells that are kept stay in order
-pub are_in_order-filter : (keep : Places → Bool) (rows : List Places) → are_in_order rows ≡ true
-    → are_in_order (filter keep rows) ≡ true
-are_in_order-filter keep [] ordered = refl
-are_in_order-filter keep (row ∷ later) ordered =
-    search (rules, arith, cases_Bool, and_parts, and_from, list_all-filter, are_in_order-filter keep later)
-
--- Months.
-
--- a cell before the first month is before its cells
-cells_in-before_first : (row : Places) (months : List (List Places)) → cells_in (before_first row months) ≡ row ∷ cells_in months
-cells_in-before_first row months = grind arith
-
--- the months have all cells, in their order
-pub cells_in-months_of : (rows : List Places) → cells_in (months_of rows) ≡ rows
-cells_in-months_of [] = refl
-cells_in-months_of (row ∷ later) = grind (arith, cells_in-before_first, cells_in-months_of later)
-
--- the first month begins with the first cell
-begins_with : (row : Places) (later : List Places)
-    → (month : List Places) × (others : List (List Places)) × (months_of (row ∷ later) ≡ (row ∷ month) ∷ others)
-begins_with row later = by (is_followed row.0 later) (months_of later)
+apart_later x y z night first second ends = by (is_same_month x z) refl
   where
-    by : (b : Bool) (months : List (List Places))
-        → (month : List Places) × (others : List (List Places))
-        × ((if b then before_first row months else (row ∷ []) ∷ months) ≡ (row ∷ month) ∷ others)
-    by true [] = ([], [], refl)
-    by true (month ∷ others) = (month, others, refl)
-    by false months = ([], months, refl)
-
--- a cell of the first month is apart from the others too
-joined : (row next : Places) (month : List Places) (others : List (List Places)) → is_same_month row.0 next.0 ≡ true
-    → are_apart ((next ∷ month) ∷ others) ≡ true → are_apart ((row ∷ next ∷ month) ∷ others) ≡ true
-joined row next month others same apart =
-    let cells = cells_in others in
-    let parts = and_parts (list_all (is_apart cells) (next ∷ month)) (are_apart others) apart in
-    let first = and_parts (is_apart cells next) (list_all (is_apart cells) month) parts.0 in
-    let row_apart : is_apart cells row ≡ true = grind (arith, list_all_weaker, same_as) in
-    and_from (list_all (is_apart cells) (row ∷ next ∷ month)) (are_apart others)
-    (and_from (is_apart cells row) (list_all (is_apart cells) (next ∷ month)) row_apart parts.0) parts.1
-
--- where the next cell does not go on with the month, no later one is of it
-parted : (row next : Places) (later : List Places) → is_night row.0.night ≡ true
-    → list_all (λ (other : Places). is_lt (cell_cmp row.0 other.0)) (next ∷ later) ≡ true
-    → are_in_order (next ∷ later) ≡ true → goes_on row.0 next.0 ≡ false → is_apart (next ∷ later) row ≡ true
-parted row next later night after ordered ends = grind (arith, and_parts, and_from, apart_next, list_all_weaker, apart_later)
-
--- in the order of the stock no two months are of one product and one month of the calendar
-pub months_apart : (rows : List Places) → have_nights rows ≡ true → are_in_order rows ≡ true → are_apart (months_of rows) ≡ true
-months_apart [] nights ordered = refl
-months_apart (row ∷ []) nights ordered = refl
-months_apart (row ∷ next ∷ later) nights ordered =
-    let dated = and_parts (is_night row.0.night) (have_nights (next ∷ later)) nights in
-    let order = and_parts (list_all (λ (other : Places). is_lt (cell_cmp row.0 other.0)) (next ∷ later)) (are_in_order (next ∷ later)) ordered in
-    by (goes_on row.0 next.0) refl dated.0 order.0 order.1 (months_apart (next ∷ later) dated.1 order.1)
-  where
-    by : (b : Bool) → goes_on row.0 next.0 ≡ b → is_night row.0.night ≡ true
-        → list_all (λ (other : Places). is_lt (cell_cmp row.0 other.0)) (next ∷ later) ≡ true
-        → are_in_order (next ∷ later) ≡ true → are_apart (months_of (next ∷ later)) ≡ true
-        → are_apart (if b then before_first row (months_of (next ∷ later)) else (row ∷ []) ∷ months_of (next ∷ later)) ≡ true
-    by true follows night after ordered apart =
-        let begins = begins_with next later in
-        ap (λ months. are_apart (before_first row months)) begins.2
-        ∙ joined row next begins.0 begins.1 (goes_on-month row.0 next.0 follows) (ap are_apart (sym begins.2) ∙ apart)
-    by false ends night after ordered apart =
-        and_from (list_all (is_apart (cells_in (months_of (next ∷ later)))) (row ∷ [])) _
-        (and_from (is_apart (cells_in (months_of (next ∷ later))) row) true
-        (ap (λ cells. is_apart cells row) (cells_in-months_of (next ∷ later)) ∙ parted row next later night after ordered ends) refl) apart
+    by : (b : Bool) → is_same_month x z ≡ b → b ≡ false
+    by false same = refl
+    by true same =
+        let alike = of_month x z same in
+        let found = between x y z first second alike.product in
+        absurd (both_ways (goes_on x y) ends (and_from (is_product x y) _ found.product
+        (later_in_month x.night y.night z.night night found.after (omega (arith, found.before)) alike.year alike.month)))

@@ -1,16 +1,13 @@
--- What the calls of `Marks` do to the flags, and so to the set of positions; and the last save-point, as a walk over the
--- positions in order finds it.
-use borrow.Rule.Slice.PartMut.{put_mid}
-use Rattle.std.proofs.Common.{◌≡◌, ℕ, ◌+◌, ◌≤◌, ◌<◌, min, ◌==◌, ◌&&◌, ◌||◌, ◌∙◌, Bool, true, false, List, length, replicate, set, nat_le, ap, sym, arith, length-set, length-append, length-drop, length-take-le, get_or-set_same, get_or-set_other, refl, zero, suc, IsTrue, filter}
+-- What the calls of `Marks` do to the flags, and so to the set of positions. For none, has, add and cut.
+use Rattle.std.proofs.Common.{◌≡◌, ℕ, ◌+◌, ◌≤◌, ◌<◌, min, ◌==◌, ◌&&◌, ◌||◌, ◌∙◌, Bool, true, false, List, length, replicate, set, nat_le, ap, sym, arith, length-set, length-append, length-drop, length-take-le, get_or-set_same, get_or-set_other, refl}
 use Rattle.std.proofs.lemmas.Bool.Decides.{nat_tests}
 use Rattle.std.proofs.lemmas.Bool.{and_right}
+use borrow.Rule.Slice.PartMut.{put_mid}
 use Rattle.std.proofs.lemmas.List.{get_or_past, get_or-replicate, length-replicate, get_or_append_left, get_or-append_right, get_or-take}
 use Rattle.allotment.specs.Limits.{is_between}
-use Rattle.allotment.specs.Cells.{numbers_from}
 use Rattle.plan.specs.Limits.{most_steps}
 use Rattle.plan.specs.Marks.{is_taken_in, last_mark, AreInRange}
 use Rattle.plan.specs.Flags.{is_flagged, flagged, AreFlags, is_taken_in-flagged}
-use Rattle.plan.specs.Rules.{greatest}
 
 -- where all flags are false, none stands
 is_flagged-replicate : (n p : ℕ) → is_flagged (replicate n false) p ≡ false
@@ -85,44 +82,3 @@ is_taken_in-cut flags pos above k q kept at rest =
     is_taken_in-flagged _ q (AreFlags-cut flags pos above k kept at rest)
     ∙ is_flagged-cut flags pos above k q kept.whole at rest
     ∙ ap (λ b. nat_le q pos && b) (sym (is_taken_in-flagged flags q kept))
-
--- the last of the numbers up to n that passes, or 0 where none passes
-pub record IsLastTo (passes : ℕ → Bool) (n last : ℕ) : Type 0 where
-  pub lands : IsTrue ((last == 0) || passes last)
-  pub within : last ≤ n
-  pub none_above : (q : ℕ) → q ≤ n → IsTrue (passes q) → q ≤ last
-
--- before the first number none passes
-pub IsLastTo-none : (passes : ℕ → Bool) → IsLastTo passes 0 0
-IsLastTo-none passes = record { lands = refl; within = omega arith; none_above = λ q low passed. low }
-
--- one more number is the last one where it passes
-pub IsLastTo-here : (passes : ℕ → Bool) (n last : ℕ) → IsLastTo passes n last → passes (n + 1) ≡ true → IsLastTo passes (n + 1) (n + 1)
-IsLastTo-here passes n last so_far passed = record { lands = grind arith; within = omega arith; none_above = λ q low _. low }
-
--- and leaves it the same where it does not
-pub IsLastTo-past : (passes : ℕ → Bool) (n last : ℕ) → IsLastTo passes n last → passes (n + 1) ≡ false → IsLastTo passes (n + 1) last
-IsLastTo-past passes n last so_far failed = record {
-  lands = so_far.lands;
-  within = omega (arith, so_far.within);
-  none_above = λ q low passed. grind (arith, so_far.none_above q);
-}
-
--- where all that pass are at most this number, so is the greatest
-greatest_at_most : (passes : ℕ → Bool) (first more last : ℕ)
-    → ((q : ℕ) → q < first + more → IsTrue (passes q) → q ≤ last) → greatest (filter passes (numbers_from first more)) ≤ last
-greatest_at_most passes first zero last none = omega arith
-greatest_at_most passes first (suc more) last none =
-    let later = greatest_at_most passes (first + 1) more last (λ q low. none q (omega arith)) in
-    grind (arith, none first, later)
-
--- a number of the row that passes is at most the greatest
-at_most_greatest : (passes : ℕ → Bool) (first more p : ℕ) → first ≤ p → p < first + more → passes p ≡ true
-    → p ≤ greatest (filter passes (numbers_from first more))
-at_most_greatest passes first zero p low high passed = absurd (omega arith)
-at_most_greatest passes first (suc more) p low high passed = grind (arith, at_most_greatest passes (first + 1) more p)
-
--- the last number that passes is the greatest
-pub greatest-last : (passes : ℕ → Bool) (n last : ℕ) → IsLastTo passes n last → last ≡ greatest (filter passes (numbers_from 1 n))
-greatest-last passes n last is =
-    grind (arith, nat_tests, greatest_at_most passes 1 n last (λ q low. is.none_above q (omega arith)), at_most_greatest passes 1 n last, is.lands, is.within)

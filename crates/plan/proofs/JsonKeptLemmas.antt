@@ -4,7 +4,8 @@ use Rattle.serde_json.specs.Data.{Data}
 use Rattle.plan.specs.PlanModel.{Planned, is_plan}
 use Rattle.plan.specs.Drafts.{judged}
 use Rattle.plan.specs.PlanJson.{has_just, text_of, option_members, option_said, json_option, json_step, json_steps, json_tries, draft_with, plan_in_json}
-use Rattle.plan.proofs.ReadLemmas.{HasNight, HasNights, all_images, judged_keeps, night_read}
+use Rattle.plan.proofs.CleanLemmas.{HasNight, HasNights, all_images, judged_keeps}
+use Rattle.plan.proofs.ReadLemmas.{night_read}
 
 -- the first night of an option is read as a night
 option_night : (d : Data) → HasNight (json_option d)

@@ -13,7 +13,15 @@ pub record IsLimitedStep (s : StepPlan) : Type 0 where
   pub each_want : list_all is_want s.options ≡ true
 
 pub step_limited : (s : StepPlan) → is_step s ≡ true → IsLimitedStep s
-step_limited s good = grind (arith, and_both, leb-true)
+step_limited s good =
+    let n = length s.options in
+    let both = and_both (is_between 1 most_options n) (list_all is_want s.options) good in
+    let count = and_both (nat_le 1 n) (nat_le n most_options) both.0 in
+    record {
+      some_options = leb-true 1 n count.0;
+      few_options = leb-true n most_options count.1;
+      each_want = both.1;
+    }
 
 -- a plan that keeps the limits, part by part
 pub record IsLimited (p : Planned) : Type 0 where
@@ -24,7 +32,20 @@ pub record IsLimited (p : Planned) : Type 0 where
   pub few_tries : p.tries ≤ most_tries
 
 pub limited : (p : Planned) → IsTrue (is_plan p) → IsLimited p
-limited p good = grind (arith, and_both, leb-true)
+limited p good =
+    let n = step_count p in
+    let counted = is_between 1 most_steps n in
+    let tries = and_both (counted && list_all is_step p.steps && is_last_unmarked p.steps) (nat_le p.tries most_tries) good in
+    let last = and_both (counted && list_all is_step p.steps) (is_last_unmarked p.steps) tries.0 in
+    let steps = and_both counted (list_all is_step p.steps) last.0 in
+    let count = and_both (nat_le 1 n) (nat_le n most_steps) steps.0 in
+    record {
+      some_steps = leb-true 1 n count.0;
+      few_steps = leb-true n most_steps count.1;
+      each_step = steps.1;
+      last_unmarked = last.1;
+      few_tries = leb-true p.tries most_tries tries.1;
+    }
 
 -- it has at most so many steps
 pub few_steps : (plan : Planned) → IsTrue (is_plan plan) → step_count plan ≤ most_steps

@@ -1,6 +1,7 @@
 -- What a JSON value has, by what is found in it. For what is taken out of values.
-use Rattle.std.proofs.Common.{◌≡◌, ℕ, suc, ◌&&◌, ◌==◌, Bool, List, [], ◌∷◌, map, length, refl, ap, Option, Some, String, option_map, is_some, arith, Bor, Global}
+use Rattle.std.proofs.Common.{◌≡◌, ℕ, suc, ◌&&◌, ◌==◌, Bool, List, [], ◌∷◌, map, length, refl, ap, Option, Some, String, option_map, is_some, arith, Bor}
 use Rattle.std.specs.List.{list_all}
+use Rattle.std.specs.declared.alloc.Global.{Global}
 use Rattle.std.proofs.lemmas.List.{length-map}
 use Rattle.std.proofs.lemmas.List.Folds.{list_all-map}
 use Rattle.serde_json.specs.Data.{Data}

@@ -1,5 +1,6 @@
 -- Which number from 1 to 255 a text spells. For the reader of numbers, and for an option's nights and count.
-use Rattle.std.proofs.Common.{◌≡◌, ◌≢◌, ℕ, ◌<◌, ◌≤◌, ◌^◌, ◌⊎◌, inl, inr, Bool, List, length, refl, sym, ap, ◌∙◌, arith, get_or, Option, Some, None, Ok, Err, bytes_eq, decimal, option_and_then, if◌then◌else◌, Result, MatchResult, OkIff, le-leb, leb-true, slice_get}
+use Rattle.std.proofs.Common.{◌≡◌, ◌≢◌, ℕ, ◌<◌, ◌≤◌, ◌^◌, ◌⊎◌, inl, inr, Bool, List, length, refl, sym, ap, ◌∙◌, arith, get_or, Option, Some, None, Ok, Err, bytes_eq, decimal, option_and_then, if◌then◌else◌, Result, MatchResult, OkIff, le-leb, leb-true}
+use Rattle.std.specs.List.{slice_get}
 use Rattle.std.specs.Str.Parse.{digits_value, AllDigits, ParsesUnsigned}
 use Rattle.std.proofs.lemmas.Fmt.{decimal_digit, decimal_is_IsNumeral, decimal_nonempty, first_decimal, decimal-digits_value}
 use Rattle.std.proofs.lemmas.Option.{get_or_from_slice_get}
@@ -23,9 +24,20 @@ number_again n l =
 pub small_number_spelled : (t : List ℕ) (n : ℕ) → decimal n ≡ t → 1 ≤ n → n ≤ 255 → small_number t ≡ n
 small_number_spelled t n e low high = grind (arith, number_again, keep_if_yes, and_make, le-leb)
 
+-- a number that is none of them counts as 0
+unspelled_within : (n : ℕ) (b : Bool) → is_between 1 255 n ≡ b → (1 ≤ n → n ≤ 255 → ⊥)
+    → number_or_none (if b then Some n else None) ≡ 0
+unspelled_within n b e none = grind (arith, and_both, leb-true)
+
+-- a text that spells no number from 1 to 255 counts as 0
+unspelled_by : (t : List ℕ) (o : Option ℕ) → number_in t ≡ o
+    → ((n : ℕ) → 1 ≤ n → n ≤ 255 → decimal n ≡ t → ⊥)
+    → number_or_none (option_and_then (keep_if (is_between 1 255)) o) ≡ 0
+unspelled_by t o e none = grind (arith, keep_if_some, unspelled_within, same_bytes)
+
 -- a text that is spelled by none of them spells none of them
 pub small_number_none : (t : List ℕ) → ((n : ℕ) → 1 ≤ n → n ≤ 255 → decimal n ≡ t → ⊥) → small_number t ≡ 0
-small_number_none t none = grind (arith, keep_if_some, and_both, leb-true, same_bytes)
+small_number_none t none = unspelled_by t (number_in t) refl none
 
 -- the first byte of a number from 1 on
 first_byte : (t : List ℕ) (n : ℕ) → decimal n ≡ t → 1 ≤ n → n ≤ 255 → (49 ≤ get_or t 0 0) × (get_or t 0 0 ≤ 57)

@@ -1,5 +1,5 @@
 -- What is read of an option, in the words of a want that is made of its parts. For the readers of options.
-use Rattle.std.proofs.Common.{◌≡◌, ℕ, ◌≤◌, List, ◌∷◌, length, ap, ◌∙◌, arith, None, Bool, true, false, ◌&&◌, [], ◌++◌, refl, Option, Some, Err, is_some, option_and_then, Result, le-leb, leb-true, codes, if◌then◌else◌}
+use Rattle.std.proofs.Common.{◌≡◌, ℕ, Bool, true, false, ◌&&◌, List, [], ◌∷◌, ◌++◌, refl, ap, ◌∙◌, arith, Option, Some, None, Err, is_some, option_and_then, Result, le-leb, leb-true, codes, if◌then◌else◌}
 use Rattle.serde_json.specs.Data.{Data}
 use Rattle.allotment.specs.Want.{Wanted}
 use Rattle.allotment.specs.Limits.{is_between, is_code, is_count, are_nights}
@@ -8,20 +8,15 @@ use Rattle.allotment.specs.Nights.{night_in}
 use Rattle.allotment.specs.Texts.{parts, slash, keep_if, number_in, kind_of_letter, kind_of_word}
 use Rattle.allotment.specs.declared.codes.Kind.{Kind}
 use Rattle.allotment.specs.declared.wants.Bad.TheVariants as bad
-use Rattle.plan.specs.PlanLine.{option_of_parts, option_draft}
 use Rattle.plan.specs.declared.causes.PlanCause.TheVariants as cause
 use Rattle.plan.specs.declared.faults.BadPlan.{BadPlan}
 use Rattle.plan.specs.Drafts.{OptionDraft, at, number_or_none}
+use Rattle.plan.specs.PlanLine.{option_draft, option_of_parts}
 use Rattle.plan.specs.PlanJson.{has_just, in_member, whole_number, text_of, option_members, option_said, json_option}
 use Rattle.plan.specs.Levels.{judged_option, told_want, told_option}
 use Rattle.allotment.proofs.TestLemmas.{and_both, and_make, fails_too}
 use Rattle.allotment.proofs.OwnTextLemmas.{fewer_than_cover}
 use Rattle.plan.proofs.NumberLemmas.{small_number}
-
--- a text with seven parts or more is no option
-pub seven_parts : (ps more : List (List ℕ)) (k s p f n x : List ℕ)
-    → ps ≡ k ∷ s ∷ p ∷ f ∷ n ∷ x ∷ more → 1 ≤ length more → option_of_parts ps ≡ None
-seven_parts ps more k s p f n x e some = grind (arith, e)
 
 -- a number that is there, from 1 to 255
 abbrev small : Option ℕ → ℕ

@@ -20,7 +20,7 @@ use Rattle.plan.proofs.NumberLemmas.{number_again}
 use Rattle.plan.proofs.EndLemmas.{tries_again, marked, marked_front}
 use Rattle.allotment.proofs.LawLemmas.{letter_again}
 use Rattle.allotment.proofs.OwnTextLemmas.{IsSoundWant, is_sound_want, five_of, want_plain}
-use Rattle.plan.proofs.StepLemmas.{drafted_again}
+use Rattle.plan.proofs.KeptLemmas.{drafted_again}
 use Rattle.plan.proofs.LimitLemmas.{IsLimitedStep, step_limited, limited}
 
 -- two texts without a byte are joined without it

@@ -1,6 +1,6 @@
 -- The option with which a step was done last: it is the one that stands, if any does. For the compensation of the step,
 -- and for reading the items of a journey.
-use Rattle.std.proofs.Common.{◌≡◌, ℕ, List, [], ◌∷◌, ◌++◌, refl, ap, sym, ◌∙◌, append-nil, eq-eqb, eqb-true, Bool, false, ◌==◌, ◌||◌, if◌then◌else◌, filter_map, Option, Some, None, arith, rules}
+use Rattle.std.proofs.Common.{◌≡◌, ℕ, List, [], ◌∷◌, ◌++◌, refl, ap, sym, ◌∙◌, append-nil, eq-eqb, eqb-true, Bool, false, ◌==◌, ◌||◌, if◌then◌else◌, filter_map, Option, Some, None, arith}
 use Rattle.std.proofs.lemmas.Bool.{false_from_ne_true}
 use Rattle.std.proofs.lemmas.List.Elements.{filter_map-append}
 use Rattle.std.specs.List.{cons_option, list_any}
@@ -104,4 +104,6 @@ module _ (i : ℕ) (rested rests : List Item → Type 0) (all : List Item) (late
 
   -- there is no other
   pub reads_all : Read i rested all latest → Hands rested rests None → (latest ≡ latest_option i all) × rests []
-  reads_all at hands = search (rules, arith, taken_all, at.taken, at.latest_is)
+  reads_all at hands =
+      let whole = taken_all at.taken rests hands in
+      (at.latest_is ∙ ap (latest_option i) (sym whole.0), whole.1)

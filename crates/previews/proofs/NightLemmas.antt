@@ -1,5 +1,5 @@
 -- Whether a want fits, by what is free of its nights, and what is free of them by the places that a book shows. For the preview.
-use Rattle.std.proofs.Common.{◌≡◌, ℕ, zero, suc, ◌+◌, ◌<◌, ◌≤◌, ◌==◌, Bool, List, [], ◌∷◌, filter_map, find, map, refl, ap, ap₂, ◌∙◌, arith, eqb-true, true, false, Option, Some, None, option_map, rules}
+use Rattle.std.proofs.Common.{◌≡◌, ℕ, zero, suc, ◌+◌, ◌<◌, ◌≤◌, ◌==◌, Bool, List, [], ◌∷◌, filter_map, find, map, refl, ap, ap₂, ◌∙◌, arith, eqb-true, true, false, Option, Some, None, option_map}
 use Rattle.std.proofs.lemmas.Bool.{eqb-false, false_from_ne_true}
 use Rattle.std.proofs.lemmas.List.Folds.{list_all-map}
 use Rattle.std.specs.List.{cons_option, list_all}
@@ -39,7 +39,12 @@ free_at n nights = option_map (λ (p : ℕ × Places). p.1.free) (at_of n nights
 free_said : (n : ℕ) (places : List (ℕ × Held))
     → option_map (λ (p : ℕ × Held). p.1.free) (find (λ (p : ℕ × Held). p.0 == n) places) ≡ free_at n (map night_said places)
 free_said n [] = refl
-free_said n (p ∷ later) = search (rules, arith, option_map, find, free_at, free_said n later)
+free_said n (p ∷ later) = go (p.0 == n) refl (free_said n later)
+  where
+    go : (b : Bool) → (p.0 == n) ≡ b
+        → option_map (λ (q : ℕ × Held). q.1.free) (find (λ (q : ℕ × Held). q.0 == n) later) ≡ free_at n (map night_said later)
+        → option_map (λ (q : ℕ × Held). q.1.free) (find (λ (q : ℕ × Held). q.0 == n) (p ∷ later)) ≡ free_at n (map night_said (p ∷ later))
+    go b e rest = grind arith
 
 module _ (l : List Event) (w : Wanted) where
   -- the places of so many consecutive nights of the want

@@ -1,9 +1,10 @@
 -- The next step of a journey, and the item that a step makes, by the journey's cursor. For the preview.
-use Rattle.std.proofs.Common.{◌≡◌, ℕ, zero, suc, ◌+◌, ◌<◌, ◌≤◌, List, [], ◌∷◌, length, refl, ap, sym, ◌∙◌, arith, eq-eqb, Bool, true, false, nat_le, find, Option, Some, None, option_map, option_and_then, subst}
+use Rattle.std.proofs.Common.{◌≡◌, ℕ, zero, suc, ◌+◌, ◌<◌, ◌≤◌, List, [], ◌∷◌, length, refl, ap, sym, ◌∙◌, arith, eq-eqb, Bool, true, false, nat_le, slice_get, find, Option, Some, None, option_map, option_and_then, subst}
 use Rattle.std.proofs.lemmas.Bool.{and_parts, leb-true}
-use Rattle.std.proofs.lemmas.Option.{slice_get-get_or}
+use Rattle.std.specs.Prelude.{unwrap_or}
 use Rattle.std.specs.List.{list_all}
-use Rattle.plan.specs.PlanModel.{Planned, numbered, option_count, step_count, want_at}
+use Rattle.allotment.specs.Want.{Wanted}
+use Rattle.plan.specs.PlanModel.{Planned, StepPlan, numbered, option_count, step_count, want_at}
 use Rattle.commands.specs.declared.items.Cause.TheVariants.{Refused}
 use Rattle.commands.specs.declared.items.Cursor.{Cursor}
 use Rattle.commands.specs.declared.items.Item.{Item}
@@ -28,20 +29,32 @@ use Rattle.saga_core.specs.Views.{record_of, record_of_journey}
 use Rattle.saga_core.specs.declared.records.Record.{Record}
 use Rattle.saga_core.specs.declared.deciding.Move.{Move}
 use Rattle.saga_core.specs.declared.deciding.Move.TheVariants as move
-use Rattle.previews.specs.Previews.{begun_as, FitsNext, HasOption, IsJourneyOf, IsStepDown, IsStepUp, item_made, latest_option, next_of, preview_of, step_of, with_want}
+use Rattle.previews.specs.Previews.{begun_as, FitsNext, HasOption, IsJourneyOf, IsStepDown, IsStepUp, item_made, latest_option, next_of, preview_of, step_of, the_next, with_want}
 use Rattle.previews.specs.declared.steps.NextStep.{NextStep}
 use Rattle.previews.specs.declared.steps.Preview.{Preview}
 use Rattle.previews.proofs.LatestLemmas.{latest-standing}
 
--- there is an element of each number up to the length
-numbered_there : {X : Type 0} (xs : List X) (n : ℕ) → 1 ≤ n → n ≤ length xs → numbered xs n ≡ None → ⊥
-numbered_there [] n low high none = omega arith
-numbered_there (x ∷ xs) zero low high none = omega arith
-numbered_there (x ∷ xs) (suc k) low high none = let there = slice_get-get_or (x ∷ xs) k x (omega arith) in cc
-
 -- an option that a step has is a want of the plan
-option_there : (plan : Planned) (i c : ℕ) → HasOption plan i c → want_at plan i c ≡ None → ⊥
-option_there plan i c has none = grind (arith, numbered_there, has.first, has.last)
+option_wanted : (plan : Planned) (i c : ℕ) → HasOption plan i c → (w : Wanted) × (want_at plan i c ≡ Some w)
+option_wanted plan i c has = go (numbered plan.steps i) refl has.last
+  where
+    got : {X : Type 0} (xs : List X) (k : ℕ) → k < length xs → (x : X) × (slice_get xs k ≡ Some x)
+    got [] k low = absurd (omega arith)
+    got (x ∷ xs) zero low = (x, refl)
+    got (x ∷ xs) (suc k) low = got xs k (omega arith)
+
+    of_number : {X : Type 0} (xs : List X) (n : ℕ) → 1 ≤ n → n ≤ length xs
+        → (x : X) × (numbered xs n ≡ Some x)
+    of_number xs zero low high = absurd (omega arith)
+    of_number xs (suc k) low high = got xs k (omega arith)
+
+    go : (o : Option StepPlan) → numbered plan.steps i ≡ o
+        → c ≤ unwrap_or (option_map (λ (s : StepPlan). length s.options) o) 0
+        → (w : Wanted) × (option_and_then (λ (s : StepPlan). numbered s.options c) (numbered plan.steps i) ≡ Some w)
+    go None e high = let low = has.first in absurd (omega arith)
+    go (Some s) e high =
+        let found = of_number s.options c has.first high in
+        (found.0, ap (option_and_then (λ (x : StepPlan). numbered x.options c)) e ∙ found.1)
 
 -- Journeys.
 
@@ -217,9 +230,11 @@ module _ (l : List Event) (j : ℕ) (r : Record) (of : IsJourneyOf l j r) where
   pub none_goes_back : (p : ℕ) → r.cursor.phase ≡ Back p → None ≡ next_of r.plan h → None ≡ step_of l j
   none_goes_back p back next =
       let here = goes_back p back in
-      let over = next ∙ next-back r.plan h p r.cursor.pos here.0 (phase-is l j r (Back p) is back) here.1.last in
-      let want : want_at r.plan r.cursor.pos here.0 ≡ None = grind (arith, over) in
-      absurd (option_there r.plan r.cursor.pos here.0 here.1.has want)
+      let want = option_wanted r.plan r.cursor.pos here.0 here.1.has in
+      let bad : None ≡ Some (the_next (Compensation r.cursor.pos here.0) want.0) =
+      next ∙ next-back r.plan h p r.cursor.pos here.0 (phase-is l j r (Back p) is back) here.1.last
+      ∙ ap (option_map (the_next (Compensation r.cursor.pos here.0))) want.1 in
+      cc
 
   -- a finished journey: nothing
   pub step_ends : is_finished r.cursor.phase ≡ true → None ≡ step_of l j

@@ -1,31 +1,17 @@
--- Rows that are joined of three tables, night by night: they differ, and they have one order. So have the cells. For the holders of cells.
-use Rattle.std.proofs.Common.{◌≡◌, ◌≢◌, inl, inr, ℕ, ◌<◌, ◌==◌, List, [], ◌∷◌, map, filter, Bool, true, Ordering, Less, Equal, is_lt, refl, sym, ap, subst, ◌∙◌, arith, eqb-true, flat_map, nat_cmp, ◌≤◌, cond, false, is_gt}
-use Rattle.std.specs.List.Sorted.{IsPermutation}
+-- Rows that are joined of three tables, night by night: they differ, and they have one order. For the holders of cells.
+use Rattle.std.proofs.Common.{◌≡◌, ◌≢◌, inl, inr, ℕ, ◌<◌, ◌==◌, List, [], ◌∷◌, map, filter, Bool, true, Ordering, Less, Equal, is_lt, refl, sym, ap, subst, ◌∙◌, arith, eqb-true, flat_map, nat_cmp}
 use Rattle.std.specs.Ordering.{ordering_reverse, ordering_then}
 use Rattle.std.specs.Cmp.{IsTotalOrder}
 use Rattle.std.proofs.lemmas.Bool.Decides.{nat_tests}
 use Rattle.std.proofs.lemmas.Cmp.{on_total, then_total, nat_cmp_total, nat_list_cmp_total}
-use Rattle.std.specs.List.{AllByRecursion}
-use Rattle.std.specs.Cmp.Lexicographic.{slice_cmp}
-use Rattle.std.proofs.lemmas.Bool.{cases_Bool, leb-true}
-use Rattle.sqlite_keyed.specs.Lists.{insert_sorted, sort_by}
-use Rattle.sqlite_keyed.proofs.SortLemmas.{IsPermutation-sort_by}
 use Rattle.sqlite_trees.specs.Tree.{IsAscending}
 use Rattle.sqlite_trees.proofs.ListLemmas.{ascending-append, ascending-filter, ascending-map, ascending_weaker}
 use Rattle.sqlite_rules.specs.Lists.{Has}
 use Rattle.sqlite_rules.proofs.ListLemmas.{all_from, all_has, has_either, has_filtered, has_left, has_right}
-use Rattle.allotment.specs.Cells.{kind_number}
-use Rattle.allotment.specs.declared.cells.Cell.{Cell}
-use Rattle.allotment.specs.declared.places.Held.{Held}
-use Rattle.reports.specs.Holdings.{by_night, put_by_night}
 use Rattle.desk_sql.specs.Rows.{JourneyRow, StepRow, StockRow}
-use Rattle.desk_sql.specs.Stock.{cell_cmp as stock_cmp}
-use Rattle.desk_sql.proofs.Members.{permutation_from, permutation_to}
-use Rattle.sql_model.proofs.Orders.{ascending_where}
-use Rattle.sql_model.specs.Reading.{stock_row_of}
 use Rattle.sql_lists.specs.HoldingLists.{Joined, join, joined, joined_cmp, night_cmp, step_cmp}
-use Rattle.report_writers.proofs.StockOrder.{all_inserted}
-use Rattle.report_writers.proofs.HeldRows.{IsBefore}
+use Rattle.sql_model.proofs.Orders.{ascending_where}
+use Rattle.report_writers.proofs.HandedHolders.{IsBefore}
 
 -- Lists of lists.
 
@@ -164,95 +150,3 @@ module _ (journeys : List JourneyRow) (rise : IsAscending (λ (a b : JourneyRow)
         (λ x y h k before. option_before c x y (own_cell c x h) (own_cell c y k) before)
         (held_pairs (λ (x y : Joined). IsBefore x.step y.step) IsBefore c (λ x y before. before) rising))
         cell_before stock up
-
--- The cells of a stock, night by night, and their order then.
-
--- a cell with its places
-abbrev pub Listed : Type 0
-Listed = Cell × Held
-
--- by their nights
-abbrev night_cmp_of : Listed → Listed → Ordering
-night_cmp_of x y = nat_cmp x.0.night y.0.night
-
--- the cells by their nights, those of a night in the order that they had
-abbrev pub nightly : List Listed → List Listed
-nightly xs = sort_by night_cmp_of xs
-
--- the cells alone are put so too
-put_same : (x : Listed) (ys : List Listed)
-    → map (λ (r : Listed). r.0) (insert_sorted night_cmp_of x ys) ≡ put_by_night x.0 (map (λ (r : Listed). r.0) ys)
-put_same x [] = refl
-put_same x (y ∷ later) = grind (arith, nat_tests, put_same x later)
-
--- the cells alone are those that the report names, in its order
-pub nightly_same : (xs : List Listed) → map (λ (r : Listed). r.0) (nightly xs) ≡ by_night (map (λ (r : Listed). r.0) xs)
-nightly_same [] = refl
-nightly_same (x ∷ later) = put_same x (nightly later) ∙ ap (put_by_night x.0) (nightly_same later)
-
--- sorting by nights adds no cell, and loses none
-nights_permuted : (xs : List Listed) → IsPermutation (nightly xs) xs
-nights_permuted xs = IsPermutation-sort_by night_cmp_of (on_total (λ (x : Listed). x.0.night) nat_cmp_total) xs
-
-pub has_nightly : (xs : List Listed) (z : Listed) → Has (nightly xs) z → Has xs z
-has_nightly xs z h = permutation_to (nightly xs) xs z (nights_permuted xs) h
-
-pub nightly_has : (xs : List Listed) (z : Listed) → Has xs z → Has (nightly xs) z
-nightly_has xs z h = permutation_from (nightly xs) xs z (nights_permuted xs) h
-
--- Their order.
-
--- the order of the stock: by kind, supplier, product and night
-abbrev pub IsCellBefore : Listed → Listed → Type 0
-IsCellBefore x y = is_lt (stock_cmp (stock_row_of x) (stock_row_of y)) ≡ true
-
--- the order of the report: by night, then by kind, supplier and product
-abbrev pub IsNightly : Listed → Listed → Type 0
-IsNightly x y = IsNightBefore (stock_row_of x) (stock_row_of y)
-
--- the comparison without the nights
-abbrev others_cmp : Listed → Listed → Ordering
-others_cmp x y =
-    ordering_then (nat_cmp (kind_number x.0.kind) (kind_number y.0.kind))
-    (ordering_then (slice_cmp nat_cmp x.0.supplier y.0.supplier) (slice_cmp nat_cmp x.0.product y.0.product))
-
--- an earlier night is before a later one
-night_first : (x y : Listed) → x.0.night < y.0.night → IsNightly x y
-night_first x y low = ap (λ o. is_lt (ordering_then o (others_cmp x y))) (number_less x.0.night y.0.night low)
-
--- what is before another, if their nights are the same, is so without them
-without_night : (a b c : Ordering) → is_lt (ordering_then a (ordering_then b (ordering_then c Equal))) ≡ true
-    → is_lt (ordering_then a (ordering_then b c)) ≡ true
-without_night a b c e = grind arith
-
--- a cell before another, and of no later night, is before it night by night
-nightly_before : (x y : Listed) → x.0.night ≤ y.0.night → IsCellBefore x y → IsNightly x y
-nightly_before x y low before = grind (arith, cases_Bool, eqb-true, number_same, without_night, night_first, nat_tests)
-
--- the night of what comes later is no earlier
-night_low : (x y : Listed) → IsNightly x y → x.0.night ≤ y.0.night
-night_low x y before = grind (arith, cases_Bool, leb-true, nat_tests)
-
--- a cell that comes before all of them in the stock's order is put into the report's order
-put_rises : (x : Listed) (ys : List Listed) → AllByRecursion (IsCellBefore x) ys → IsAscending IsNightly ys
-    → IsAscending IsNightly (insert_sorted night_cmp_of x ys)
-put_rises x [] before up = (tt, tt)
-put_rises x (y ∷ later) before up = go (is_gt (night_cmp_of x y)) refl (put_rises x later before.1 up.1)
-  where
-    no_later : x.0.night ≤ y.0.night → (z : Listed) → Has (y ∷ later) z → x.0.night ≤ z.0.night
-    no_later low z (inl same) = let night = ap (λ (r : Listed). r.0.night) same in omega (arith, low, night)
-    no_later low z (inr there) = let more = night_low y z (all_has (IsNightly y) later z up.0 there) in omega (arith, low, more)
-
-    go : (b : Bool) → is_gt (night_cmp_of x y) ≡ b → IsAscending IsNightly (insert_sorted night_cmp_of x later)
-        → IsAscending IsNightly (cond b (y ∷ insert_sorted night_cmp_of x later) (x ∷ y ∷ later))
-    go true e more = (all_inserted night_cmp_of (IsNightly y) x later (night_first y x (grind (arith, nat_tests, e))) up.0, more)
-    go false e more =
-        let low : x.0.night ≤ y.0.night = grind (arith, nat_tests, e) in
-        (all_from (IsNightly x) (y ∷ later) (λ z h. nightly_before x z (no_later low z h) (all_has (IsCellBefore x) (y ∷ later) z before h)), up)
-
--- cells in the stock's order, sorted by their nights, are in the report's order
-pub nightly_rises : (xs : List Listed) → IsAscending IsCellBefore xs → IsAscending IsNightly (nightly xs)
-nightly_rises [] up = tt
-nightly_rises (x ∷ later) up =
-    put_rises x (nightly later) (all_from (IsCellBefore x) (nightly later) (λ z h. all_has (IsCellBefore x) later z up.0 (has_nightly later z h)))
-    (nightly_rises later up.1)

@@ -1,37 +1,29 @@
--- Rows that are read on, or had a reason not to be. For the sources of rows, and for the functions that start them.
-use Rattle.std.proofs.Common.{◌≡◌, ap, arith, false, inl, inr, refl, sym, subst, Result, Ok, Err, IsErrOf, OnOk, List, IfOk}
-use Rattle.std.specs.Borrow.{MutBor}
-use Rattle.std.specs.List.{AllByRecursion}
+-- Rows that are read on, or had a reason not to be. For the sources of rows.
+use Rattle.std.proofs.Common.{◌≡◌, ap, arith, false, inl, inr, refl, sym, subst, Result, Ok, Err, IsErrOf, OnOk}
 use Rattle.sqlite.specs.Store.{Ghosts}
 use Rattle.sqlite.specs.Held.{Held, state}
 use Rattle.sqlite.specs.State.{HasCleanDisk}
-use Rattle.sqlite.specs.declared.error.Error.{Error}
-use Rattle.sqlite.specs.declared.rows.stream.Rows.{Rows}
 use Rattle.commands.specs.declared.replies.Fault.{Fault}
 use Rattle.commands.specs.declared.replies.Fault.TheVariants.{Memory, Store}
-use Rattle.ledger.specs.Answer.{State}
 use Rattle.saga_core.specs.RowSources.{FailsFor, StaysReady}
 use Rattle.saga_core.specs.declared.row_sources.RowSource.{Ghosts as Source}
 use Rattle.reports.specs.Writing.{LeavesReady, Takes}
 use Rattle.reports.specs.declared.faults.ReportFault.{ReportFault}
+use Rattle.reports.specs.declared.faults.ReportFault.TheVariants as report
 use Rattle.desk_sql.specs.Calls.{Quiet}
 use Rattle.desk_sql.specs.Causes.{HasFaulted, IsUp}
 use Rattle.desk_sql.specs.declared.versions.Version.{Version}
-use Rattle.desk_sql.specs.Rows.{Tables}
-use Rattle.desk_sql.proofs.Quieting.{quiet_start}
+use Rattle.ledger.specs.Answer.{State}
 use Rattle.sql_model.proofs.Quieting.{quiet_clean, quiet_keeps, quiet_up}
 use Rattle.sql_model.specs.Keeping.{KeepsIn}
 use Rattle.sql_model.specs.Spelling.{IsSpelled}
 use Rattle.sql_model.specs.Standing.{IsDesk}
 use Rattle.sql_model.proofs.Staying.{faulted_earlier, faulted_later, stays_twice}
-use Rattle.sql_lists.specs.Listing.{StartsOver}
 use Rattle.sql_reads.specs.Causes.{FailsForReasonIn}
 use Rattle.sql_reads.specs.ItemSearch.{IsLow}
 use Rattle.sql_reads.specs.declared.history_rows.ItemCursor.{ItemCursor}
-use Rattle.sql_reads.proofs.HandedTold.{IsThere, there_at}
 use Rattle.report_writers.specs.ItemsLeft.{AreSought, IsAtStart}
-use Rattle.report_writers.specs.Ready.{IsReady, StartsList}
-use Rattle.reports.specs.declared.faults.ReportFault.TheVariants as report
+use Rattle.report_writers.specs.Ready.{IsReady}
 
 -- a report that fails with the store's fault has its reason
 fails_store : {T : Type 0} (ready : Type 0) {reason : Type 0} (result : Result T ReportFault) → LeavesReady ready reason result
@@ -104,39 +96,3 @@ module _ {S : Type 0} (g : Ghosts S) where
       })
   items_stay {first} {old} {new} a b (Err fault) ready quiet clean low version going store =
       fails_by fault (λ is. ready_fails ready quiet (λ it up. store it.low it.going clean it.desk it.is_desk it.spelled it.keeps up (ap Err is)))
-
--- Rows of a list of the desk, started by a statement of its tables.
-
-module _ {S X Y : Type 0} {g : Ghosts S} (conn : MutBor (Held S)) (IsRows : Tables → List Y → Type 0) {RowsOn : Held S → List Y → Type 0}
-    {IsList : State → List X → Type 0} {RestsOn : Held S → List X → Type 0} where
-  -- from what is read of the tables of a desk that is kept, where these rows of theirs remain
-  pub started : {AreGood : Held S → Type 0} (r : Result (Rows S g) Error) → IfOk r (λ it. StartsOver g conn it IsRows RowsOn)
-      → ((v : Version) (s : State) → IsDesk s → (t : IsThere v g conn.now s) (h : Held S)
-      → ((later : List Y) → IsRows t.tables later → RowsOn h later) → (rows : List X) → IsList s rows → RestsOn h rows)
-      → ((v : Version) (s : State) → IsDesk s → (t : IsThere v g conn.now s) (h : Held S)
-      → ((later : List Y) → IsRows t.tables later → RowsOn h later) → IsSpelled s.ledger → AreGood h)
-      → IfOk r (λ it. StartsList g conn it IsList RestsOn AreGood)
-  started (Err e) told lists good = tt
-  started (Ok it) told lists good =
-      let old = conn.now in
-      let new = it.conn.now in
-      record {
-        under = record { same_reference = told.same_reference; quiet = quiet_start g old new _ _ told.starts };
-        rows = λ v clean s desk keeps. (
-            let t = there_at g old new s keeps told.starts.same told.starts.survives clean in
-            lists v s desk t new (told.starts.begun clean v t.tables t.may));
-        good = λ clean v s desk spelled keeps. (
-            let t = there_at g old new s keeps told.starts.same told.starts.survives clean in
-            good v s desk t new (told.starts.begun clean v t.tables t.may) spelled);
-      }
-
-  -- where each row of the list is good
-  pub started_good : {Good : X → Type 0} (r : Result (Rows S g) Error) → IfOk r (λ it. StartsOver g conn it IsRows RowsOn)
-      → ((v : Version) (s : State) → IsDesk s → (t : IsThere v g conn.now s) (h : Held S)
-      → ((later : List Y) → IsRows t.tables later → RowsOn h later) → (rows : List X) → IsList s rows → RestsOn h rows)
-      → ((v : Version) (s : State) → IsDesk s → IsSpelled s.ledger → IsThere v g conn.now s
-      → (rows : List X) × IsList s rows × AllByRecursion Good rows)
-      → IfOk r (λ it. StartsList g conn it IsList RestsOn (λ h. (rows : List X) × RestsOn h rows × AllByRecursion Good rows))
-  started_good {Good} r told lists good =
-      started {AreGood = λ h. (rows : List X) × RestsOn h rows × AllByRecursion Good rows} r told lists (λ v s desk t h begun spelled. (
-      let it = good v s desk spelled t in (it.0, lists v s desk t h begun it.0 it.1, it.2)))

@@ -1,7 +1,6 @@
 -- What calls show of a desk that they only read, one after another, and why they fail. For the writers of the reports.
-use Rattle.std.proofs.Common.{◌≡◌, ◌↔◌, ap, refl, sym, subst, ℕ, Bool, List, Option, Result, Err, IfErr, IsErrAnd, IsErrOf, OnErr, ◌∙◌}
+use Rattle.std.proofs.Common.{◌≡◌, ◌↔◌, ap, refl, sym, subst, ℕ, Bool, List, Option, Result, Err, IfErr, IsErrOf, OnErr}
 use Rattle.std.specs.Borrow.{MutBor}
-use Rattle.std.proofs.lemmas.Result.{err_from_is_err_and}
 use Rattle.sqlite.specs.Store.{Ghosts}
 use Rattle.sqlite.specs.Held.{Held, state}
 use Rattle.sqlite.specs.State.{HasCleanDisk}
@@ -98,11 +97,6 @@ in_done g quiet told = in_read g quiet told (λ clean s desk spelled keeps up. a
 -- a fault that is never the store's
 pub never_store : {T : Type 0} (r : Result T ReportFault) → IfErr r (λ f. f ≡ report.Store → ⊥) → IsErrOf r report.Store → ⊥
 never_store r never is = (subst (λ x. IfErr x (λ f. f ≡ report.Store → ⊥)) is never) refl
-
--- what is returned is the store's fault only where the call's fault is
-pub same_fault : {T : Type 0} {fault : ReportFault} (r : Result T ReportFault) → IsErrAnd r (λ told. told ≡ fault) → IsErrOf r report.Store
-    → IsErrOf {T = T} (Err fault) report.Store
-same_fault r failed is = let told = err_from_is_err_and r failed in sym (told.1 ∙ ap Err told.2) ∙ is
 
 -- a fault of the source is one of the report
 pub reported_store : {T : Type 0} (r : Result T Fault) → IsErrOf r Store → IsErrOf (reported r) report.Store

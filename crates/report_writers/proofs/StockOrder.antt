@@ -50,13 +50,12 @@ after_then Less e = absurd (cc)
 after_then Equal e = refl
 after_then Greater e = refl
 
--- what holds of a new element and of all others holds of all after it was inserted
-pub all_inserted : {X : Type 0} (cmp : X → X → Ordering) (P : X → Type 0) (new : X) (rows : List X) → P new → AllByRecursion P rows
-    → AllByRecursion P (insert_sorted cmp new rows)
-all_inserted cmp P new [] one all = (one, tt)
-all_inserted cmp P new (r ∷ rows) one all =
-    elim (is_gt (cmp new r)) as (λ b. AllByRecursion P (cond b (r ∷ insert_sorted cmp new rows) (new ∷ r ∷ rows))) [
-      | true ↦ (all.0, all_inserted cmp P new rows one all.1)
+all_inserted : (P : StockRow → Type 0) (new : StockRow) (rows : List StockRow) → P new → AllByRecursion P rows
+    → AllByRecursion P (insert_sorted cell_cmp new rows)
+all_inserted P new [] one all = (one, tt)
+all_inserted P new (r ∷ rows) one all =
+    elim (is_gt (cell_cmp new r)) as (λ b. AllByRecursion P (cond b (r ∷ insert_sorted cell_cmp new rows) (new ∷ r ∷ rows))) [
+      | true ↦ (all.0, all_inserted P new rows one all.1)
       | false ↦ (one, all)
     ]
 
@@ -67,7 +66,7 @@ rises_inserted new (r ∷ rows) up = go (is_gt (cell_cmp new r)) refl (rises_ins
   where
     go : (b : Bool) → is_gt (cell_cmp new r) ≡ b → IsAscending IsByCell (insert_sorted cell_cmp new rows)
         → IsAscending IsByCell (cond b (r ∷ insert_sorted cell_cmp new rows) (new ∷ r ∷ rows))
-    go true e later = (all_inserted cell_cmp (IsByCell r) new rows (after_then (cell_cmp new r) e) up.0, later)
+    go true e later = (all_inserted (IsByCell r) new rows (after_then (cell_cmp new r) e) up.0, later)
     go false e later =
         let first : IsByCell new r = sym (turned new r) ∙ e in
         ((first, all_weaker (IsByCell r) (IsByCell new) (λ s next. by_cell_twice new r s first next) rows up.0), up)

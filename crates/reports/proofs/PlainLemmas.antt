@@ -74,19 +74,32 @@ field_kind Cover = refl
 
 -- Lines.
 
+-- seven pieces, each a fixed text and a text, and a last text, without the brackets in which they were appended
+pieces : (c0 c1 c2 c3 c4 c5 c6 end a f h k n p s : List ℕ)
+    → ((((((([] ++ (c0 ++ a)) ++ (c1 ++ f)) ++ (c2 ++ h)) ++ (c3 ++ k)) ++ (c4 ++ n)) ++ (c5 ++ p)) ++ (c6 ++ s)) ++ end
+    ≡ c0 ++ (a ++ (c1 ++ (f ++ (c2 ++ (h ++ (c3 ++ (k ++ (c4 ++ (n ++ (c5 ++ (p ++ (c6 ++ (s ++ end)))))))))))))
+pieces c0 c1 c2 c3 c4 c5 c6 end a f h k n p s = simp append_assoc
+
 -- a name in quotes
 abbrev in_quotes : List ℕ → List ℕ
 in_quotes name = 34 ∷ (name ++ 34 ∷ [])
 
--- three numbers and four texts under their names, as they were appended, are an object
-seven_members : (t u v w x y z a f h k n p s : List ℕ)
-    → ((((((([] ++ ((123 ∷ (in_quotes t ++ 58 ∷ [])) ++ a)) ++ ((44 ∷ (in_quotes u ++ 58 ∷ [])) ++ f)) ++ ((44 ∷ (in_quotes v ++ 58 ∷ [])) ++ h))
-    ++ ((44 ∷ (in_quotes w ++ 58 ∷ 34 ∷ [])) ++ k)) ++ ((34 ∷ 44 ∷ (in_quotes x ++ 58 ∷ 34 ∷ [])) ++ n))
-    ++ ((34 ∷ 44 ∷ (in_quotes y ++ 58 ∷ 34 ∷ [])) ++ p)) ++ ((34 ∷ 44 ∷ (in_quotes z ++ 58 ∷ 34 ∷ [])) ++ s)) ++ 34 ∷ 125 ∷ 10 ∷ []
-    ≡ (123 ∷ (in_quotes t ++ 58 ∷ (a ++ 44 ∷ (in_quotes u ++ 58 ∷ (f ++ 44 ∷ (in_quotes v ++ 58 ∷ (h ++ 44 ∷ (in_quotes w ++ 58 ∷ (in_quotes k
-    ++ 44 ∷ (in_quotes x ++ 58 ∷ (in_quotes n ++ 44 ∷ (in_quotes y ++ 58 ∷ (in_quotes p ++ 44 ∷ (in_quotes z ++ 58 ∷ (in_quotes s
-    ++ 125 ∷ []))))))))))))))) ++ 10 ∷ []
-seven_members t u v w x y z a f h k n p s = simp append_assoc
+-- the last four members of an object, which are texts, and what follows it
+texts_last : (u v w x k n p s end : List ℕ)
+    → (44 ∷ (in_quotes u ++ 58 ∷ (in_quotes k ++ 44 ∷ (in_quotes v ++ 58 ∷ (in_quotes n
+    ++ 44 ∷ (in_quotes w ++ 58 ∷ (in_quotes p ++ 44 ∷ (in_quotes x ++ 58 ∷ (in_quotes s ++ 125 ∷ [])))))))))
+    ++ end
+    ≡ (44 ∷ (in_quotes u ++ 58 ∷ 34 ∷ [])) ++ (k ++ ((34 ∷ 44 ∷ (in_quotes v ++ 58 ∷ 34 ∷ [])) ++ (n
+    ++ ((34 ∷ 44 ∷ (in_quotes w ++ 58 ∷ 34 ∷ []))
+    ++ (p ++ ((34 ∷ 44 ∷ (in_quotes x ++ 58 ∷ 34 ∷ [])) ++ (s ++ 34 ∷ 125 ∷ end)))))))
+texts_last u v w x k n p s end = simp append_assoc
+
+-- its first three members, which are numbers, and what follows them
+numbers_first : (u v w a f h more end : List ℕ)
+    → (123 ∷ (in_quotes u ++ 58 ∷ (a ++ 44 ∷ (in_quotes v ++ 58 ∷ (f ++ 44 ∷ (in_quotes w ++ 58 ∷ (h ++ more))))))) ++ end
+    ≡ (123 ∷ (in_quotes u ++ 58 ∷ [])) ++ (a ++ ((44 ∷ (in_quotes v ++ 58 ∷ [])) ++ (f
+    ++ ((44 ∷ (in_quotes w ++ 58 ∷ [])) ++ (h ++ (more ++ end))))))
+numbers_first u v w a f h more end = simp append_assoc
 
 -- the line of a cell as an object, in the pieces of which it is made
 pub object_made : (row : Cell × Held) → is_plain (night_text row.0.night) ≡ true
@@ -98,9 +111,19 @@ pub object_made : (row : Cell × Held) → is_plain (night_text row.0.night) ≡
     ≡ json_line (cell_data row)
 unfolding escape_byte
 object_made row night product supplier =
-    rw (escape_kind row.0.kind, escape_same (night_text row.0.night) night, escape_same row.0.product product, escape_same row.0.supplier supplier)
-    (seven_members (codes "allot") (codes "free") (codes "held") (codes "kind") (codes "night") (codes "product") (codes "supplier")
-    (decimal row.1.allot) (decimal row.1.free) (decimal (held_of row.1)) (kind_word row.0.kind) (night_text row.0.night) row.0.product row.0.supplier)
+    let k = kind_word row.0.kind in
+    let n = night_text row.0.night in
+    let p = row.0.product in
+    let s = row.0.supplier in
+    let a = decimal row.1.allot in
+    let f = decimal row.1.free in
+    let h = decimal (held_of row.1) in
+    rw (escape_kind row.0.kind, escape_same n night, escape_same p product, escape_same s supplier)
+    (pieces (codes "{\"allot\":") (codes ",\"free\":") (codes ",\"held\":") (codes ",\"kind\":\"") (codes "\",\"night\":\"")
+    (codes "\",\"product\":\"") (codes "\",\"supplier\":\"") (codes "\"}\n") a f h k n p s
+    ∙ sym (numbers_first (codes "allot") (codes "free") (codes "held") a f h _ (10 ∷ [])
+    ∙ ap (λ (t : List ℕ). codes "{\"allot\":" ++ (a ++ (codes ",\"free\":" ++ (f ++ (codes ",\"held\":" ++ (h ++ t))))))
+    (texts_last (codes "kind") (codes "night") (codes "product") (codes "supplier") k n p s (10 ∷ []))))
 
 -- the record of a cell, in its pieces
 pub record_made : (row : Cell × Held) → is_plain (night_text row.0.night) ≡ true
@@ -111,7 +134,17 @@ pub record_made : (row : Cell × Held) → is_plain (night_text row.0.night) ≡
     ++ (codes "," ++ decimal (held_of row.1))) ++ (codes "," ++ decimal row.1.free)) ++ codes "\r\n"
     ≡ csv_line (cell_fields row)
 unfolding fields_text is_blank
-record_made row night product supplier allot held free = simp (field_kind, field_same, append_assoc)
+record_made row night product supplier allot held free =
+    rw (
+      field_kind row.0.kind,
+      field_same row.0.supplier supplier,
+      field_same row.0.product product,
+      field_same (night_text row.0.night) night,
+      field_same (decimal row.1.allot) allot,
+      field_same (decimal (held_of row.1)) held,
+      field_same (decimal row.1.free) free,
+    )
+    (simp append_assoc)
 
 -- a fixed text and a piece were appended, and what stood there before and what the piece shows are known
 pub appended : {new old made text shown : List ℕ} (fixed : List ℕ) → new ≡ old ++ (fixed ++ text) → text ≡ shown → old ≡ made

@@ -109,9 +109,12 @@ module _ {R T : Type 0} (source : Ghosts R T) where
       reason = λ first sound ready. two.reason first sound (one.reason first (two.sound sound) ready);
     }
 
--- one row was returned
+-- one row was returned, or none
 pub given_one : {T : Type 0} {found : Option T} {row : T} (old new : ℕ) → new ≡ count_of found + old → found ≡ Some row → new ≡ 1 + old
 given_one old new counted some = subst (λ x. new ≡ count_of x + old) some counted
+
+pub given_none : {T : Type 0} {found : Option T} (old new : ℕ) → new ≡ count_of found + old → found ≡ None → new ≡ 0 + old
+given_none old new counted none = subst (λ x. new ≡ count_of x + old) none counted
 
 module _ {R T : Type 0} {source : Ghosts R T} {old new : R} {text : List T → List ℕ} {number : List T → ℕ} {Counted : ℕ → Type 0}
     {NoneLeft : Type 0} {held holds : Option (List ℕ)} where

@@ -1,9 +1,10 @@
 -- Journeys of a ledger, found one after another by rising number. For calls that walk over a book's journeys, whichever of
 -- them they look for.
-use Rattle.std.proofs.Common.{◌≡◌, refl, ℕ, zero, suc, ◌<◌, ◌≤◌, List, [], ◌∷◌, length, Bool, true, Some, None, arith, filter, filter_map, find, nat_lt, ◌&&◌, le-ltb, lt-ltb, ltb-true, rules}
+use Rattle.std.proofs.Common.{◌≡◌, refl, ℕ, zero, suc, ◌<◌, ◌≤◌, List, [], ◌∷◌, cond, length, Bool, true, Option, Some, None, arith, filter, filter_map, find, option_map, nat_lt, ◌&&◌, le-ltb, lt-ltb, ltb-true}
+use Rattle.std.specs.List.{cons_option}
 use Rattle.allotment.specs.Cells.{numbers_from}
-use Rattle.ledger.specs.Ledger.{Event, journeys, numbers}
-use Rattle.saga_core.specs.Views.{brief_of}
+use Rattle.ledger.specs.Ledger.{Event, Journey, journeys, journey_at, numbers, history}
+use Rattle.saga_core.specs.Views.{brief_of, brief_of_journey}
 use Rattle.saga_core.specs.declared.records.Brief.{Brief}
 
 -- the numbers rise, from this one on
@@ -18,7 +19,11 @@ rises_lower n k (b ∷ bs) low rise = (let e : n ≤ b.id = omega (arith, low, r
 -- the numbers of a ledger's journeys rise
 rises_from : (l : List Event) (n m : ℕ) → RisesFrom n (filter_map (brief_of l) (numbers_from n m))
 rises_from l n zero = tt
-rises_from l n (suc m) = search (rules, arith, rises_lower, rises_from l (suc n) m)
+rises_from l n (suc m) = go (journey_at l n) (rises_from l (suc n) m)
+  where
+    go : (found : Option Journey) → RisesFrom (suc n) (filter_map (brief_of l) (numbers_from (suc n) m))
+        → RisesFrom n (cons_option (option_map (brief_of_journey n (history l n)) found) (filter_map (brief_of l) (numbers_from (suc n) m)))
+    go found more = grind (arith, rises_lower)
 
 -- the briefs of a ledger's journeys
 abbrev pub briefs_of : List Event → List Brief
@@ -57,4 +62,8 @@ module _ (passes : Brief → Bool) where
 -- where no journey is found, there is none
 pub none_found : (test : Brief → Bool) (bs : List Brief) → find test bs ≡ None → filter test bs ≡ []
 none_found test [] is = refl
-none_found test (x ∷ bs) is = search (rules, arith, none_found test bs)
+none_found test (x ∷ bs) is = go (test x) is (none_found test bs)
+  where
+    go : (v : Bool) → cond v (Some x) (find test bs) ≡ None → (find test bs ≡ None → filter test bs ≡ [])
+        → cond v (x ∷ filter test bs) (filter test bs) ≡ []
+    go v same later = grind arith

@@ -1,5 +1,5 @@
 -- What readers and writers hold, over several calls.
-use Rattle.std.proofs.Common.{◌≡◌, ◌∙◌, ap, sym, List, [], ◌++◌, ℕ, append-nil, append_assoc, refl, ◌+◌, ◌-◌, ◌≤◌, length, take, drop, arith, length-drop, Option, Some, None, rules}
+use Rattle.std.proofs.Common.{◌≡◌, ◌∙◌, ap, sym, List, [], ◌++◌, ℕ, append-nil, append_assoc, refl, ◌+◌, ◌-◌, ◌≤◌, length, take, drop, arith, length-drop, Option, Some, None}
 use Rattle.std.proofs.lemmas.List.{take_rest}
 use Rattle.std.proofs.Math.Seq.{take-add}
 use Rattle.std.specs.Io.KnownBytes.{Appends, Consumes, Keeps}
@@ -23,7 +23,8 @@ pub appends_more : (x y z : Option (List ℕ)) (us bs : List ℕ)
 appends_more None y z us bs first second = tt
 appends_more (Some xs) None z us bs first second = absurd first
 appends_more (Some xs) (Some ys) None us bs first second = absurd second
-appends_more (Some xs) (Some ys) (Some zs) us bs first second = search (rules, arith, append_assoc)
+appends_more (Some xs) (Some ys) (Some zs) us bs first second =
+    second ∙ ap (λ front. front ++ bs) first ∙ append_assoc xs us bs
 
 -- bytes that were written, and then kept
 pub appends_before : (x y z : Option (List ℕ)) (bs : List ℕ)
@@ -53,7 +54,8 @@ pub consumes_more : (x y z : Option (List ℕ)) (us bs : List ℕ)
 consumes_more None y z us bs first second = tt
 consumes_more (Some xs) None z us bs first second = absurd first
 consumes_more (Some xs) (Some ys) None us bs first second = absurd second
-consumes_more (Some xs) (Some ys) (Some zs) us bs first second = search (rules, arith, append_assoc)
+consumes_more (Some xs) (Some ys) (Some zs) us bs first second =
+    first ∙ ap (λ rest. us ++ rest) second ∙ sym (append_assoc us bs zs)
 
 -- the suffix of the bytes from a place on
 abbrev pub rest_from : ℕ → List ℕ → List ℕ
@@ -62,7 +64,8 @@ rest_from at bytes = take (length bytes - at) (drop at bytes)
 -- a prefix of the bytes and a prefix of their suffix make a longer prefix
 pub front_grows : (bytes : List ℕ) (at count : ℕ)
     → take at bytes ++ take count (rest_from at bytes) ≡ take (at + count) bytes
-front_grows bytes at count = search (rules, arith, take_rest, take-add)
+front_grows bytes at count =
+    ap (λ rest. take at bytes ++ take count rest) (take_rest bytes at) ∙ sym (take-add at count bytes)
 
 -- a prefix of the suffix ends within the bytes
 pub front_within : (bytes : List ℕ) (at count : ℕ)

@@ -1,11 +1,11 @@
 -- Executions that go on, repeatedly. For chains.
-use Rattle.std.proofs.Common.{◌≡◌, false, List, [], ◌∷◌, ◌++◌, refl, sym, ap, subst, ◌∙◌, arith, append_assoc, append-nil, IsTrue, rules}
-use Rattle.ledger.specs.Answer.{State, start}
-use Rattle.ledger.specs.World.{Moment, Done, Cut, Reopened, after, IsWorld}
+use Rattle.std.proofs.Common.{◌≡◌, true, false, List, [], ◌∷◌, ◌++◌, refl, sym, ap, subst, ◌∙◌, arith, append_assoc, append-nil, IsTrue}
+use Rattle.ledger.specs.Answer.{State, start, outcome}
+use Rattle.ledger.specs.World.{Moment, Done, Cut, Reopened, after, GoesOn, IsWorld}
 use Rattle.saga_core.specs.Runs.{Asks, state_after, outcome_of}
 use Rattle.saga_core.specs.Worlds.{is_whole, dones, continued, cut_off, KeepLimits}
 use Rattle.saga_core.specs.Chains.{GoesOnAll, Crashes, StaysWorld, StaysWhole, Reopens, Adds, Begins}
-use Rattle.saga_core.proofs.WorldLemmas.{GoesOn-append, after-append, is_whole-append, is_whole-dones, KeepLimits-append, KeepLimits-front, KeepLimits-rest, GoesOn-cut, IsWorld-continued, after-continued}
+use Rattle.saga_core.proofs.WorldLemmas.{after-append, is_whole-append, is_whole-dones, KeepLimits-append, KeepLimits-front, KeepLimits-rest, GoesOn-cut, IsWorld-continued, after-continued}
 
 -- all asks may be answered
 pub goes_on_all : GoesOnAll
@@ -26,6 +26,22 @@ goes_on_all w asks limits = record {
 pub crashes : Crashes
 crashes w asks progress was_kept = record { progress = progress; was_kept = was_kept; goes = refl }
 
+-- each continuation may be followed by a reopening
+GoesOn-reopened : (s : State) (v : List Moment) → GoesOn s v → GoesOn s (v ++ Reopened ∷ [])
+GoesOn-reopened s [] goes = tt
+GoesOn-reopened s (Done asked ask reply ∷ v) goes = grind (arith, GoesOn-reopened (outcome s ask asked).state v)
+GoesOn-reopened s (Reopened ∷ v) goes = GoesOn-reopened s v goes
+GoesOn-reopened s (Cut asked ask true ∷ []) goes = (goes.0, refl, tt)
+GoesOn-reopened s (Cut asked ask false ∷ []) goes = (goes.0, refl, tt)
+GoesOn-reopened s (Cut asked ask true ∷ Reopened ∷ v) goes =
+    (goes.0, refl, GoesOn-reopened (outcome s ask asked).state (Reopened ∷ v) goes.2)
+GoesOn-reopened s (Cut asked ask false ∷ Reopened ∷ v) goes =
+    (goes.0, refl, GoesOn-reopened s (Reopened ∷ v) goes.2)
+GoesOn-reopened s (Cut asked ask true ∷ Done a b r ∷ v) goes = let e : false ≡ true = goes.1 in cc
+GoesOn-reopened s (Cut asked ask false ∷ Done a b r ∷ v) goes = let e : false ≡ true = goes.1 in cc
+GoesOn-reopened s (Cut asked ask true ∷ Cut a b k ∷ v) goes = let e : false ≡ true = goes.1 in cc
+GoesOn-reopened s (Cut asked ask false ∷ Cut a b k ∷ v) goes = let e : false ≡ true = goes.1 in cc
+
 -- a reopening makes moments whole
 is_whole-reopened : (v : List Moment) → IsTrue (is_whole (v ++ Reopened ∷ []))
 is_whole-reopened [] = refl
@@ -36,13 +52,14 @@ is_whole-reopened (Cut asked ask kept ∷ m ∷ v) = is_whole-reopened (m ∷ v)
 
 pub reopens : Reopens
 reopens w world = record {
-  world = GoesOn-append start w (Reopened ∷ []) world (λ e. refl) tt;
+  world = GoesOn-reopened start w world;
   whole = is_whole-reopened w;
   same = after-append start w (Reopened ∷ []);
 }
 
 pub stays_whole : StaysWhole
-stays_whole w asks whole = search (rules, arith, is_whole-append, is_whole-dones)
+stays_whole w asks whole =
+    is_whole-append w (dones (after start w) asks ++ []) whole (is_whole-dones (after start w) asks)
 
 pub stays_world : StaysWorld
 stays_world w asks v world whole g =

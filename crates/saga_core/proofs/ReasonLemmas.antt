@@ -1,5 +1,5 @@
 -- A book that may act for some asks, one ask after another. For run, and for runs over lines, messages and journeys.
-use Rattle.std.proofs.Common.{◌≡◌, ◌≤◌, ◌+◌, ℕ, suc, [], ◌∷◌, ◌++◌, length, length-append, take, ap, sym, ◌∙◌, subst, arith, drop, Option, Ok, Err, rules}
+use Rattle.std.proofs.Common.{◌≡◌, ◌≤◌, ◌+◌, ℕ, suc, [], ◌∷◌, ◌++◌, length, length-append, take, ap, sym, ◌∙◌, subst, arith, drop, Option, Ok, Err}
 use Rattle.std.proofs.lemmas.List.{drop_all, drop_more, take_all, take-append-le}
 use Rattle.commands.specs.Asks.{Asked}
 use Rattle.commands.specs.Request.{Request}
@@ -45,7 +45,9 @@ module _ (could can : State → Asks → Type 0) (reason : State → State → T
 -- past the last ask, it may act for the later ones
 pub acts_after_all : (can : State → Asks → Type 0) (s : State) (asks later : Asks) (i : ℕ) → length asks ≤ i
     → can (state_after s (take i asks)) (drop i asks ++ later) → can (state_after s asks) later
-acts_after_all can s asks later i past may = search (rules, arith, take_all, drop_all)
+acts_after_all can s asks later i past may =
+    let there = subst (λ x. can (state_after s x) (drop i asks ++ later)) (take_all i asks past) may in
+    subst (λ x. can (state_after s asks) (x ++ later)) (drop_all i asks past) there
 
 -- A reason among some asks is one among more.
 

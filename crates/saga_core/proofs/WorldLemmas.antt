@@ -1,7 +1,7 @@
 -- How an execution goes on with asks. For run, and for all other continuations: recovery, lines and messages.
-use Rattle.std.proofs.Common.{◌≡◌, ◌≤◌, true, false, List, [], ◌∷◌, ◌++◌, length, refl, ap, sym, ◌∙◌, subst, arith, append-nil, IsTrue, Bool, rules}
+use Rattle.std.proofs.Common.{◌≡◌, ◌≤◌, true, false, List, [], ◌∷◌, ◌++◌, length, refl, ap, sym, ◌∙◌, subst, arith, append-nil, IsTrue, Bool}
 use Rattle.ledger.specs.Answer.{State, start, outcome}
-use Rattle.ledger.specs.World.{Moment, Done, Cut, Reopened, is_reopened, after, GoesOn, IsWorld}
+use Rattle.ledger.specs.World.{Moment, Done, Cut, Reopened, after, GoesOn, IsWorld}
 use Rattle.saga_core.specs.Runs.{Asks, state_after, outcome_of}
 use Rattle.saga_core.specs.Worlds.{is_whole, dones, continued, cut_off, KeepLimits, StandsAtEnd, LeavesEnd, EndsWith, EndsAmong}
 use Rattle.saga_core.proofs.RunLemmas.{state_after-append}
@@ -16,15 +16,14 @@ after-append s (Cut asked ask true ∷ v) w = after-append (outcome s ask asked)
 after-append s (Cut asked ask false ∷ v) w = after-append s v w
 after-append s (Reopened ∷ v) w = after-append s v w
 
--- moments go on with any moments that go on from there; where their last is cut off, with a reopening first
-pub GoesOn-append : (s : State) (v w : List Moment) → GoesOn s v → (is_whole v ≡ false → IsTrue (is_reopened w))
+-- moments whose last is not cut off go on with any moments that go on from there
+pub GoesOn-append : (s : State) (v w : List Moment) → GoesOn s v → IsTrue (is_whole v)
     → GoesOn (after s v) w → GoesOn s (v ++ w)
 GoesOn-append s [] w goes whole then = then
 GoesOn-append s (Done asked ask reply ∷ v) w goes whole then =
     (goes.0, goes.1, GoesOn-append (outcome s ask asked).state v w goes.2 whole then)
 GoesOn-append s (Reopened ∷ v) w goes whole then = GoesOn-append s v w goes whole then
-GoesOn-append s (Cut asked ask true ∷ []) w goes whole then = (goes.0, whole refl, then)
-GoesOn-append s (Cut asked ask false ∷ []) w goes whole then = (goes.0, whole refl, then)
+GoesOn-append s (Cut asked ask kept ∷ []) w goes whole then = let e : false ≡ true = whole in cc
 GoesOn-append s (Cut asked ask true ∷ Reopened ∷ v) w goes whole then =
     (goes.0, goes.1, GoesOn-append (outcome s ask asked).state (Reopened ∷ v) w goes.2 whole then)
 GoesOn-append s (Cut asked ask false ∷ Reopened ∷ v) w goes whole then =
@@ -80,6 +79,10 @@ GoesOn-dones s (c ∷ cs) last all then = grind (arith, GoesOn-dones (outcome_of
 pub GoesOn-cut : (s : State) (next : Asks) (was_kept : Bool) → KeepLimits next → GoesOn s (cut_off next was_kept)
 GoesOn-cut s next was_kept limits = grind arith
 
+-- nothing of the ask was kept
+after-lost : (s : State) (next : Asks) → after s (cut_off next false) ≡ s
+after-lost s next = grind arith
+
 -- all of the ask was kept
 after-kept : (s : State) (next : Asks) → length next ≤ 1 → after s (cut_off next true) ≡ state_after s next
 after-kept s [] few = refl
@@ -96,9 +99,7 @@ after-continued w cs last = cc (after-append start w (dones (after start w) cs +
 -- the continued execution is an execution
 pub IsWorld-continued : (w : List Moment) (cs : Asks) (last : List Moment) → IsWorld w → IsTrue (is_whole w)
     → KeepLimits cs → GoesOn (state_after (after start w) cs) last → IsWorld (continued w cs last)
-IsWorld-continued w cs last world whole all then =
-    GoesOn-append start w (dones (after start w) cs ++ last) world (λ (e : is_whole w ≡ false). cc)
-    (GoesOn-dones (after start w) cs last all then)
+IsWorld-continued w cs last world whole all then = grind (arith, GoesOn-append, GoesOn-dones)
 
 -- the book represents the state after the asks
 pub stands-continued : {stood : State → Type 0} (stands : State → Type 0) (w : List Moment) (cs : Asks)
@@ -112,7 +113,20 @@ pub leaves-crashed : {stood : State → Type 0} (leaves : State → State → Ty
     → leaves (state_after (after start w) cs) (state_after (after start w) (cs ++ next))
     → LeavesEnd leaves (continued w cs (cut_off next false)) (continued w cs (cut_off next true))
 leaves-crashed leaves w cs next here all few left =
-    search (rules, arith, KeepLimits-front, KeepLimits-rest, after-continued, after-kept, state_after-append, IsWorld-continued, GoesOn-cut)
+    let s = after start w in
+    let t = state_after s cs in
+    let front = KeepLimits-front cs next all in
+    let rest = KeepLimits-rest cs next all in
+    let lost : after start (continued w cs (cut_off next false)) ≡ t =
+    after-continued w cs (cut_off next false) ∙ after-lost t next in
+    let kept : after start (continued w cs (cut_off next true)) ≡ state_after s (cs ++ next) =
+    after-continued w cs (cut_off next true) ∙ after-kept t next few ∙ sym (state_after-append s cs next) in
+    record {
+      first = IsWorld-continued w cs (cut_off next false) here.world here.whole front (GoesOn-cut t next false rest);
+      second = IsWorld-continued w cs (cut_off next true) here.world here.whole front (GoesOn-cut t next true rest);
+      left = subst (λ u. leaves u (after start (continued w cs (cut_off next true)))) (sym lost)
+          (subst (leaves t) (sym kept) left);
+    }
 
 -- How a run ends.
 

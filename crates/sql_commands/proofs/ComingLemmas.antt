@@ -1,5 +1,5 @@
 -- What the rows of a step imply for the answer of the rules. For `step_outcome`.
-use Rattle.std.proofs.Common.{◌≡◌, ℕ, ◌+◌, ◌<◌, ◌≤◌, List, Option, Some, None, true, false, Bool, refl, sym, ap, subst, ◌∙◌, arith, option_map, if◌then◌else◌, nat_lt, Result, Ok}
+use Rattle.std.proofs.Common.{◌≡◌, ℕ, ◌+◌, ◌<◌, ◌≤◌, List, Option, Some, None, true, false, Bool, refl, sym, ap, subst, ◌∙◌, arith, option_map, if◌then◌else◌, nat_lt, Result, Ok, nat_cmp}
 use Rattle.std.specs.FinSet as set
 use Rattle.plan.specs.PlanModel.{Planned, step_count, want_at}
 use Rattle.plan.specs.Marks.{is_taken_in}
@@ -8,7 +8,7 @@ use Rattle.std.proofs.lemmas.Bool.Decides.{nat_tests}
 use Rattle.plan.specs.declared.turns.Turn.TheVariants as turn
 use Rattle.commands.specs.declared.items.Cause.{Cause}
 use Rattle.commands.specs.declared.items.Cause.TheVariants as causes
-use Rattle.saga_core.specs.Rulings.{Fits}
+use Rattle.saga_core.specs.Rulings.{turn_said, Fits}
 use Rattle.commands.specs.declared.items.Cursor.{Cursor}
 use Rattle.commands.specs.declared.items.Item.{Item}
 use Rattle.commands.specs.declared.items.Item.TheVariants as item
@@ -25,7 +25,8 @@ use Rattle.ledger.specs.Ledger.{fits, history}
 use Rattle.ledger.specs.Replies.{Answer, sees, seen_journey, answer_move, abort_choices, step_choices}
 use Rattle.ledger.proofs.Histories.{follows}
 use Rattle.ledger.proofs.Positions.{last_standing}
-use Rattle.saga_core.specs.Views.{record_of}
+use Rattle.ledger.specs.Cursors.{marks_of}
+use Rattle.saga_core.specs.Views.{record_of, record_of_journey}
 use Rattle.saga_core.specs.Deciding.{NamesStep}
 use Rattle.saga_core.specs.declared.deciding.Move.{Move}
 use Rattle.saga_core.specs.declared.deciding.Move.TheVariants as move
@@ -41,29 +42,45 @@ use Rattle.sql_commands.specs.Placing.{begun_as, IsSeen, StandsAt}
 use Rattle.sql_commands.specs.declared.cursors.Found.{Found}
 use Rattle.sql_commands.specs.declared.cursors.Made.{Made}
 use Rattle.sql_reads.specs.declared.plan_rows.Choice.{Choice}
-use Rattle.sql_commands.proofs.StepLemmas.{abort_next, mapped_none, mapped_some, record_seen, record_unseen, none_seen, IsSaid, step_next}
+use Rattle.sql_commands.proofs.StepLemmas.{abort_next, record_seen, record_unseen, none_seen, IsSaid, step_next}
 
 -- The cursor of a journey.
+
+-- the agent, steps and cursor that were found are those of the record
+stand_shown : (stand : Stand) (o : Option Record) → Some stand ≡ option_map stand_of o
+    → (r : Record) × (o ≡ Some r) × (stand_of r ≡ stand)
+stand_shown stand None e = cc
+stand_shown stand (Some r) e = (r, refl, cc)
 
 module _ (s : State) (who : Option (List ℕ)) (id : ℕ) where
   -- a caller who sees the journeys of its agent sees the journey
   pub stand_seen : (stand : Stand) → Some stand ≡ option_map stand_of (record_of s.ledger id)
       → ((plan : Planned) → true ≡ sees who (record { agent = stand.agent; plan = plan })) → (r : Record) × IsSeen s who id r × (stand_of r ≡ stand)
   stand_seen stand found seen =
-      let it = mapped_some stand_of stand (record_of s.ledger id) found in
-      let sees_it = sym (seen it.0.plan ∙ ap (λ (x : Stand). sees who (record { agent = x.agent; plan = it.0.plan })) it.2) in
-      (it.0, record_seen s who id it.0 (sym it.1) sees_it, sym it.2)
+      let it = stand_shown stand (record_of s.ledger id) found in
+      let agent : it.0.agent ≡ stand.agent = ap (λ (x : Stand). x.agent) it.2 in (
+        it.0,
+        record_seen s who id it.0 (sym it.1)
+            (ap (λ a. sees who (record { agent = a; plan = it.0.plan })) agent ∙ sym (seen it.0.plan)),
+        it.2,
+      )
 
   -- a caller who does not see them does not see the journey
   pub stand_unseen : (stand : Stand) → Some stand ≡ option_map stand_of (record_of s.ledger id)
       → ((plan : Planned) → false ≡ sees who (record { agent = stand.agent; plan = plan })) → seen_journey s.ledger who id ≡ None
   stand_unseen stand found seen =
-      let it = mapped_some stand_of stand (record_of s.ledger id) found in
-      record_unseen s who id it.0 (sym it.1) (sym (seen it.0.plan ∙ ap (λ (x : Stand). sees who (record { agent = x.agent; plan = it.0.plan })) it.2))
+      let it = stand_shown stand (record_of s.ledger id) found in
+      let agent : it.0.agent ≡ stand.agent = ap (λ (x : Stand). x.agent) it.2 in
+      record_unseen s who id it.0 (sym it.1)
+      (ap (λ a. sees who (record { agent = a; plan = it.0.plan })) agent ∙ sym (seen it.0.plan))
 
   -- if nothing is found, there is no journey
   pub stand_none : None ≡ option_map stand_of (record_of s.ledger id) → seen_journey s.ledger who id ≡ None
-  stand_none found = none_seen s who id (sym (mapped_none stand_of (record_of s.ledger id) found))
+  stand_none found = none_seen s who id (go (record_of s.ledger id) found)
+    where
+      go : (o : Option Record) → None ≡ option_map stand_of o → None ≡ o
+      go None e = refl
+      go (Some r) e = cc
 
 -- The step of a journey.
 
@@ -118,49 +135,74 @@ module _ (s : State) (desk : IsDesk s) (who : Option (List ℕ)) (id : ℕ) (r :
   refused_at : IsStuck r s → r.plan.tries ≤ r.cursor.used
       → Fits id r.plan r.cursor answered (Ok (item.Turn 0 causes.Refused))
   refused_at stuck none =
-      let none_left : nat_lt r.cursor.used r.plan.tries ≡ false = grind (arith, nat_tests) in
       let target : 0 ≡ rules.refused_target r.plan (is_taken_in r.marks) r.cursor.pos r.cursor.used =
-      sym (ap (λ b. if b then rules.last_save r.plan (is_taken_in r.marks) r.cursor.pos else 0) none_left) in
+      sym (ap (λ b. if b then rules.last_save r.plan (is_taken_in r.marks) r.cursor.pos else 0) (none_left none)) in
       decided false stuck.1 (move.Turn 0) (one-turn r.plan r.marks r.cursor false 0 stuck.0 refl target)
       (ap is_finished stuck.0) (λ e. cc) (item.Turn 0 causes.Refused) refl
+    where
+      none_left : r.plan.tries ≤ r.cursor.used → nat_lt r.cursor.used r.plan.tries ≡ false
+      none_left more = grind (arith, nat_tests)
 
   -- a journey that runs may be turned to its start
   asked_at : r.cursor.phase ≡ Run
       → Fits id r.plan r.cursor (answer_move s.ledger id (abort_choices 0) NoSavePoint (seen_journey s.ledger who id)) (Ok (item.Turn 0 causes.Asked))
-  asked_at run = abort_next s desk.legal who id r is 0 (Ok (item.Turn 0 causes.Asked)) (rw run)
+  asked_at run =
+      abort_next s desk.legal who id r is 0 (Ok (item.Turn 0 causes.Asked))
+      (ap (λ p. turn_said r.plan (record { pos = r.cursor.pos; phase = p; used = r.cursor.used }) r.marks (turn.Asked 0) causes.Asked) (sym run))
 
   -- what leads to the start is the answer of the rules
   pub start_at : (why : Motion) (cause : Cause) → LeadsToStart (stand_of r) why cause → IsUnfit id why s
       → Fits id r.plan r.cursor (answer_within s.ledger who (asked_for id why)) (Ok (item.Turn 0 cause))
   start_at motion.Refused cause leads unfit = rw leads.1 (refused_at (unfit who r is) leads.0)
-  start_at (motion.Abort p) cause leads unfit = rw (leads.0, leads.2) (asked_at leads.1)
-  start_at _ cause leads unfit = absurd leads
+  start_at (motion.Abort p) cause leads unfit =
+      rw (leads.0, leads.2) (asked_at leads.1)
+  start_at motion.Stop cause leads unfit = absurd leads
+  start_at motion.Save cause leads unfit = absurd leads
 
   -- the next step, if its want fits
   pub up_comes : (stand : Stand) → stand_of r ≡ stand → (choice : Choice) → stand.cursor.phase ≡ Run
       → stand.cursor.pos < stand.steps → IsNextChoice id (stand.cursor.pos + 1) stand.cursor.used s choice
       → FitsIn choice.want s true → IsNextMade id r answered (up_made id stand choice)
-  up_comes stand same choice = rw (← same) (up_at choice)
+  up_comes stand same choice =
+      subst
+      (λ (x : Stand). x.cursor.phase ≡ Run → x.cursor.pos < x.steps → IsNextChoice id (x.cursor.pos + 1) x.cursor.used s choice
+      → FitsIn choice.want s true → IsNextMade id r answered (up_made id x choice)) same (up_at choice)
 
   -- the compensation of the last standing step
   pub down_comes : (stand : Stand) → stand_of r ≡ stand → (choice : Choice) (q : ℕ) → stand.cursor.phase ≡ Back q
       → 1 ≤ stand.cursor.pos → IsLastChoice id stand.cursor.pos s choice
       → IsNextMade id r answered (down_made id stand choice)
-  down_comes stand same choice q = rw (← same) (down_at choice q)
+  down_comes stand same choice q =
+      subst
+      (λ (x : Stand). x.cursor.phase ≡ Back q → 1 ≤ x.cursor.pos → IsLastChoice id x.cursor.pos s choice
+      → IsNextMade id r answered (down_made id x choice)) same (down_at choice q)
 
   -- a turn, if its want does not fit
   pub refused_comes : (stand : Stand) → stand_of r ≡ stand → (choice : Choice) → stand.cursor.phase ≡ Run
       → stand.cursor.pos < stand.steps → IsNextChoice id (stand.cursor.pos + 1) stand.cursor.used s choice
       → FitsIn choice.want s false → IsStuck r s
-  refused_comes stand same choice = rw (← same)
-      (λ run below next fit. let chosen = next (begun_as r) is.at (omega arith) (omega arith) in
-      (run, λ now. fit ∙ ap (fits s.ledger) (sym chosen.1) ∙ ap (λ n. fits s.ledger (want_at r.plan (r.cursor.pos + 1) n)) chosen.0))
+  refused_comes stand same choice =
+      subst
+      (λ (x : Stand). x.cursor.phase ≡ Run → x.cursor.pos < x.steps → IsNextChoice id (x.cursor.pos + 1) x.cursor.used s choice
+      → FitsIn choice.want s false → IsStuck r s) same
+      (λ run below next fit. (
+        run,
+        λ now. (
+            let chosen = next (begun_as r) is.at (omega arith) (omega arith) in
+            fit ∙ ap (fits s.ledger) (sym chosen.1) ∙ ap (λ n. fits s.ledger (want_at r.plan (r.cursor.pos + 1) n)) chosen.0),
+      ))
 
 -- The record of a journey that was found.
 
 -- the record that the caller sees is the one in the ledger
 record_there : (s : State) (who : Option (List ℕ)) (id : ℕ) (r : Record) → IsSeen s who id r → record_of s.ledger id ≡ Some r
-record_there s who id r is = rw is.at (rw (← is.cursor, ← is.marks))
+record_there s who id r is =
+    ap (option_map (record_of_journey (history s.ledger id))) is.at
+    ∙ ap (λ c. Some (made c (marks_of (history s.ledger id)))) (sym is.cursor)
+    ∙ ap (λ ms. Some (made r.cursor ms)) (sym is.marks)
+  where
+    made : Cursor → set.FinSet nat_cmp → Record
+    made cursor marks = record { agent = r.agent; plan = r.plan; cursor = cursor; marks = marks }
 
 -- it is the same for all callers who see the journey
 pub unfit_seen : (s : State) (who : Option (List ℕ)) (id : ℕ) (r : Record) → IsSeen s who id r → IsStuck r s → IsUnfit id motion.Refused s
@@ -197,7 +239,9 @@ module _ (s : State) (ask : Option Asked) (found : Found) where
     desk = read.desk;
     new = read.new;
     here = read.here;
-    answered = rw (read_seen r read.here is) (answers found.id s read.desk (asker ask) (rw (read_seen r read.here is) at read.here.seen) read.unfit);
+    answered =
+        subst (λ x. (j : ℕ) (t : State) → IsDesk t → IsNext j x why t next) (sym (read_seen r read.here is)) answers found.id s read.desk
+        (asker ask) read.here.seen read.unfit;
   }
 
   -- the outcome of a step of a journey that the caller sees is made

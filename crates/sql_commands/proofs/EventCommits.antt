@@ -1,9 +1,9 @@
 -- Kept replies, the rowids of an event, and what the rules answer: an item, a begin or a load, whose rows lead to the outcome of its
 -- request and are permitted. For the functions that commit.
-use Rattle.std.proofs.Common.{[], ◌≡◌, ◌+◌, ◌<◌, ◌≤◌, ℕ, List, length, Option, Some, None, IsTrue, refl, sym, ap, subst, ◌∙◌, suc, ◌∷◌, ap₂, arith, flat_map, sum_by, length-append}
+use Rattle.std.proofs.Common.{[], ◌≡◌, ◌+◌, ◌<◌, ◌≤◌, ℕ, List, length, Option, Some, None, IsTrue, refl, sym, ap, subst, ◌∙◌, is_some, option_map, IsUtf8, suc, ◌∷◌, ap₂, arith, flat_map, sum_by, ◌&&◌, nat_le, length-append, le-leb}
 use Rattle.commands.specs.Asks.{Asked}
 use Rattle.commands.specs.Request as request
-use Rattle.commands.specs.Texts.{reply_line}
+use Rattle.commands.specs.Texts.{reply_line, is_accepted}
 use Rattle.commands.specs.declared.replies.Refusal.TheVariants.{Limit}
 use Rattle.commands.specs.declared.replies.Reply.{Reply}
 use Rattle.commands.specs.declared.replies.Reply.TheVariants.{Refused}
@@ -13,7 +13,7 @@ use Rattle.desk_sql.specs.Readable.{HasReplyText}
 use Rattle.desk_sql.specs.declared.answers.KeptAnswer.{KeptAnswer}
 use Rattle.desk_sql.specs.declared.meta.Meta.{Meta}
 use Rattle.plan.specs.PlanModel.{Planned, is_plan, StepPlan}
-use Rattle.ledger.specs.Answer.{KeptReply, State, Answer, Outcome, answer_within, asker, most_events, state_with}
+use Rattle.ledger.specs.Answer.{KeptReply, State, Answer, Outcome, answer_within, asker, most_events, kept_for, state_with}
 use Rattle.ledger.specs.Ledger.{Began, Did, Loaded, history, journeys}
 use Rattle.ledger.specs.Cursors.{cursor_of}
 use Rattle.ledger.proofs.Growing.{is_item_allowed-may_do}
@@ -35,8 +35,8 @@ use Rattle.sql_model.proofs.Moves.{cursor_next}
 use Rattle.sql_commands.proofs.Executing.{IsUnmoved, LeadsToOutcome}
 use Rattle.sql_commands.specs.Executing.{IsAnswered}
 use Rattle.sql_commands.specs.Placing.{begun_as}
-use Rattle.sql_commands.proofs.Permitted.{IsMade as IsMadeNext, item_leads, leads_of, move_request, answered_permitted, begin_permitted, item_permitted, load_permitted}
-use Rattle.sql_commands.proofs.RowLimits.{line_text}
+use Rattle.sql_commands.proofs.LeadLemmas.{IsMade as IsMadeNext, item_leads, leads_of, move_request}
+use Rattle.sql_commands.proofs.TextLengths.{line_text}
 use Rattle.std.proofs.lemmas.List.{length-map}
 use Rattle.std.proofs.lemmas.List.Sums.{sum_by-cons}
 use Rattle.allotment.specs.declared.cells.Cell.{Cell}
@@ -54,9 +54,12 @@ use Rattle.sql_commands.specs.Loading.{HavePlaces, row_loaded, IsLoadDue}
 use Rattle.sql_commands.specs.Moving.{Says, asked_for, IsMade}
 use Rattle.sql_commands.specs.declared.moves.Motion.{Motion}
 use Rattle.sql_commands.specs.declared.moves.Motion.TheVariants as motion
-use Rattle.commands.proofs.NumberLemmas.{between_from}
-use Rattle.commands.specs.Batches.{is_batch}
-use Rattle.commands.specs.Names.{is_agent}
+use Rattle.std.specs.List.{list_all}
+use Rattle.std.proofs.lemmas.Bool.{and_from, and_parts}
+use Rattle.allotment.specs.Limits.{is_between}
+use Rattle.commands.specs.Batches.{are_distinct, is_batch, is_good_row}
+use Rattle.commands.specs.Limits.{most_rows}
+use Rattle.commands.specs.Names.{is_agent, is_batch_name}
 use Rattle.commands.specs.declared.replies.Reply.TheVariants as reply
 use Rattle.ledger.specs.Replies.{loaded}
 use Rattle.ledger.specs.JourneyChanges.{cursor_after}
@@ -64,43 +67,52 @@ use Rattle.sql_reads.proofs.ReadReasons.{few_journeys}
 use Rattle.sql_writes.specs.declared.events.BatchLoaded.{BatchLoaded}
 use Rattle.sql_commands.specs.declared.cursors.Found.{Found}
 use Rattle.sql_commands.specs.declared.cursors.Made.{Made}
-use Rattle.sql_commands.proofs.LoadLemmas.{fitting, put_told}
+use Rattle.sql_commands.proofs.Permitted.{answered_permitted, begin_permitted, item_permitted, load_permitted}
+use Rattle.sql_commands.proofs.LoadComes.{fitting}
+use Rattle.sql_commands.proofs.LoadRows.{put_told}
 
 -- Kept replies.
 
-module _ (t : Tables) (s : State) (st : StandsFor t s) (desk : IsDesk s) where
-  -- if a row was found, it is that of a reply that is kept
-  kept_there : (agent key : List ℕ) (found : KeptAnswer) → FindsAnswer agent key t (Some found)
-      → (k : KeptReply) × (s.kept agent key ≡ Some k) × IsAnswerOf (answer_of agent key found) k
-  kept_there agent key found finds = tells-some IsAnswerOf _ (s.kept agent key) (answer_read t s st desk agent key (Some found) finds)
+-- if a row was found, its key is known, and this is the reply
+pub known_reply : (t : Tables) (s : State) (ask : Asked) (found : KeptAnswer) (r : Reply) → StandsFor t s → IsDesk s
+    → FindsAnswer ask.agent ask.key t (Some found) → AnswersAgain found ask r → Finds s (Some ask) (Some r)
+known_reply t s ask found r st desk finds again =
+    let told = tells-some IsAnswerOf (answer_of ask.agent ask.key found) (s.kept ask.agent ask.key) (answer_read t s st desk ask.agent ask.key (Some found) finds) in (
+      ap is_some told.1,
+      λ asked. (let known = outcome-known s (Some ask) asked told.0 told.1 in (
+        again s told.0 told.2.ask told.2.reply told.2.accepted ∙ sym (ap (λ (o : Outcome). o.reply) known),
+        ap (λ (o : Outcome). o.state) known,
+      )),
+    )
 
-  -- its key is known, and this is the reply
-  pub known_reply : (ask : Asked) (found : KeptAnswer) (r : Reply) → FindsAnswer ask.agent ask.key t (Some found) → AnswersAgain found ask r
-      → Finds s (Some ask) (Some r)
-  known_reply ask found r finds again =
-      let told = kept_there ask.agent ask.key found finds in
-      (rw told.1, λ asked. rw (outcome-known s (Some ask) asked told.0 told.1) (again s told.0 told.2.ask told.2.reply told.2.accepted, refl))
+-- the kept reply is the one in the row that was found
+pub kept_reply : (t : Tables) (s : State) (agent key : List ℕ) (found : KeptAnswer) (r : Reply) → StandsFor t s → IsDesk s
+    → FindsAnswer agent key t (Some found) → ReadsReply found r → Some r ≡ kept_under s agent key
+kept_reply t s agent key found r st desk finds reads =
+    let told = tells-some IsAnswerOf (answer_of agent key found) (s.kept agent key) (answer_read t s st desk agent key (Some found) finds) in
+    ap Some (reads told.0.reply told.2.reply told.2.accepted) ∙ sym (ap (option_map (λ (k : KeptReply). k.reply)) told.1)
 
-  -- the kept reply is the one in the row that was found
-  pub kept_reply : (agent key : List ℕ) (found : KeptAnswer) (r : Reply) → FindsAnswer agent key t (Some found) → ReadsReply found r
-      → Some r ≡ kept_under s agent key
-  kept_reply agent key found r finds reads =
-      let told = kept_there agent key found finds in rw (told.1, reads told.0.reply told.2.reply told.2.accepted)
+-- and what was kept is the line of an accepted reply
+pub kept_line : (t : Tables) (s : State) (ask : Asked) (found : KeptAnswer) → StandsFor t s → IsDesk s
+    → FindsAnswer ask.agent ask.key t (Some found) → IsKeptLine found
+kept_line t s ask found st desk finds =
+    let told = tells-some IsAnswerOf (answer_of ask.agent ask.key found) (s.kept ask.agent ask.key) (answer_read t s st desk ask.agent ask.key (Some found) finds) in
+    record { reply = told.0.reply; accepted = told.2.accepted; line = told.2.reply }
 
-  -- and what was kept is the line of an accepted reply
-  pub kept_line : (agent key : List ℕ) (found : KeptAnswer) → FindsAnswer agent key t (Some found) → IsKeptLine found
-  kept_line agent key found finds =
-      let told = kept_there agent key found finds in record { reply = told.0.reply; accepted = told.2.accepted; line = told.2.reply }
+-- each such line can be read
+pub reply_texts : (t : Tables) (s : State) → StandsFor t s → IsDesk s → (agent key : List ℕ) → HasReplyText agent key t
+reply_texts t s st desk agent key a has =
+    let told = tells-some IsAnswerOf a (s.kept agent key) (answer_found s.kept t.answer agent key (Some a) st.answer desk.keepable has) in
+    subst IsUtf8 (sym told.2.reply) (line_text told.0.reply told.2.accepted)
 
-  -- each such line can be read
-  pub reply_texts : (agent key : List ℕ) → HasReplyText agent key t
-  reply_texts agent key a has =
-      let told = tells-some IsAnswerOf a (s.kept agent key) (answer_found s.kept t.answer agent key (Some a) st.answer desk.keepable has) in
-      rw told.2.reply (line_text told.0.reply told.2.accepted)
+-- if no row was found, no reply is kept
+pub none_kept : (t : Tables) (s : State) (agent key : List ℕ) → StandsFor t s → IsDesk s → FindsAnswer agent key t None → None ≡ kept_under s agent key
+none_kept t s agent key st desk finds =
+    sym (ap (option_map (λ (k : KeptReply). k.reply)) (tells-none IsAnswerOf (s.kept agent key) (answer_read t s st desk agent key None finds)))
 
-  -- if no row was found, no reply is kept
-  pub none_kept : (agent key : List ℕ) → FindsAnswer agent key t None → s.kept agent key ≡ None
-  none_kept agent key finds = tells-none IsAnswerOf (s.kept agent key) (answer_read t s st desk agent key None finds)
+-- if no row was found, the key is new
+pub new_key : (t : Tables) (s : State) (ask : Asked) → StandsFor t s → IsDesk s → FindsAnswer ask.agent ask.key t None → kept_for s (Some ask) ≡ None
+new_key t s ask st desk finds = tells-none IsAnswerOf (s.kept ask.agent ask.key) (answer_read t s st desk ask.agent ask.key None finds)
 
 -- The rows of an event take at most the rowids of its request.
 
@@ -113,9 +125,9 @@ few_with_reply (Some ask) n e asked few = omega (arith, few)
 -- Items.
 
 item_few : (id : ℕ) (plan : Planned) (then : Cursor) (n : Numbers) (x : Item) (e : Event) → Says id plan then x e → rowids_of n e ≤ 1
-item_few id plan then n (item.Turn p cause) e says = rw says (omega arith)
-item_few id plan then n (item.Save p) e says = rw says (omega arith)
-item_few id plan then n _ e says = rw says.2 (omega arith)
+item_few id plan then n (item.Turn p cause) e says = subst (λ v. rowids_of n v ≤ 1) (sym says) (omega arith)
+item_few id plan then n (item.Save p) e says = subst (λ v. rowids_of n v ≤ 1) (sym says) (omega arith)
+item_few id plan then n _ e says = subst (λ v. rowids_of n v ≤ 1) (sym says.2) (omega arith)
 
 one_counted : (id : ℕ) (why : Motion) → request_rowids (asked_for id why) ≡ 1
 one_counted id motion.Refused = refl
@@ -161,7 +173,8 @@ module _ {n : Numbers} {e : Event} {ask : Option Asked} {asked : Request} {answe
   -- if the ledger is full, nothing changes
   pub answered_full : most_events ≤ length s.ledger → IsUnmoved s ask asked (Refused Limit)
   answered_full full =
-      let comes = outcome-full s ask asked is.new is.event event_is full in record { replied = rw comes; same = rw comes }
+      let comes = outcome-full s ask asked is.new is.event event_is full in
+      record { replied = sym (ap (λ (o : Outcome). o.reply) comes); same = ap (λ (o : Outcome). o.state) comes }
 
   -- if it has room, the rows lead to the outcome
   pub answered_leads : length s.ledger < most_events → LeadsToOutcome n e ask asked answered s
@@ -189,24 +202,34 @@ made_answered s ask found m why made =
     let here = due.here in
     let r = here.journey in
     let answered = reply.Moved id m.item m.cursor.pos m.cursor.phase in
-    let after : m.cursor ≡ cursor_after r.plan (cursor_of r.plan (history s.ledger id)) m.item = rw (made.cursor, here.seen.cursor) in
-    let says = rw (← made.cursor) at made.says in
+    let after : m.cursor ≡ cursor_after r.plan (cursor_of r.plan (history s.ledger id)) m.item =
+    made.cursor ∙ ap (λ c. cursor_after r.plan c m.item) here.seen.cursor in
+    let says = subst (λ c. Says id r.plan c m.item m.event) (sym made.cursor) made.says in
     record {
       desk = due.desk;
       new = due.new;
       good = move_request id why;
       event = Did id m.item;
-      answered = rw made.cursor due.answered;
+      answered = due.answered
+          ∙ ap (λ (c : Cursor). record { event = Some (Did id m.item); reply = reply.Moved id m.item c.pos c.phase }) (sym made.cursor);
       num = here.counted.num;
-      few = omega (arith, item_few id r.plan m.cursor n m.item m.event says, one_counted id why);
+      few = (let few = item_few id r.plan m.cursor n m.item m.event says in let one = one_counted id why in omega (arith, few, one));
       rows = λ room may. (
-          let num = here.counted in
-          let is : IsMadeNext s ask id (begun_as r) m.item n m.cursor =
-          record { desk = due.desk; new = due.new; at = here.seen.at; may = may; num = num.num; journeys_are = num.journeys_are; cursor = after } in
+          let is : IsMadeNext s ask id (begun_as r) m.item n m.cursor = record {
+            desk = due.desk;
+            new = due.new;
+            at = here.seen.at;
+            may = may;
+            num = here.counted.num;
+            journeys_are = here.counted.journeys_are;
+            cursor = after;
+          } in
           record {
             leads = item_leads s ask answered id (begun_as r) n m.cursor m.item m.event says is;
             permits = λ spelled t st. item_permitted s spelled ask id (begun_as r) n m.cursor t st m.item m.event says is;
-            accepted = rw (after ∙ sym (cursor_next s.ledger id (begun_as r) m.item due.desk.legal here.seen.at may))
+            accepted =
+                subst (λ (c : Cursor). IsTrue (is_accepted (reply.Moved id m.item c.pos c.phase)))
+                (sym (after ∙ sym (cursor_next s.ledger id (begun_as r) m.item due.desk.legal here.seen.at may)))
                 (moved-good s.ledger due.desk.legal room id (begun_as r) m.item here.seen.at
                 (sym (is_item_allowed-may_do s.ledger id m.item (begun_as r) here.seen.at) ∙ may));
           });
@@ -236,7 +259,8 @@ begin_answered s ask counts n j here counted num_is number good whose agent =
             leads = leads_of n _ ask (reply.Begun n.journeys) (λ t st. rw same (next_is_above t s st here.desk))
                 (λ t st. rw (whose, same, num) (subst (StandsFor _) comes.1 (begin_stands t s ask plan st here.desk.legal good room here.new)));
             permits = λ spelled t st. begin_permitted t s st here.desk n j num same agent;
-            accepted = between_from 1 most_events n.journeys (omega arith) (omega (arith, fewer));
+            accepted = and_from (nat_le 1 n.journeys) (nat_le n.journeys most_events) (le-leb 1 n.journeys (omega (arith, same)))
+                (le-leb n.journeys most_events (omega (arith, same, room, fewer)));
           });
     }
 
@@ -260,6 +284,8 @@ load_answered s ask n l name rows answered good named content is due =
             (λ t st. rw (new.counted.num, new.counted.journeys_are, named, content, put_told s rows l.cells.now t.stock due.places.told)
             (load_stands t s ask answered name rows st may new.new));
         permits = λ spelled t st. load_permitted t s st new.desk n l name rows new.counted.num new.unknown named content good;
-        accepted = rw is (grind arith);
+        accepted = (
+            let three = (and_parts (is_batch_name name && is_between 1 most_rows (length rows) && list_all is_good_row rows) (are_distinct rows) good).0 in
+            rw is (and_parts (is_batch_name name && is_between 1 most_rows (length rows)) (list_all is_good_row rows) three).0);
       };
     }

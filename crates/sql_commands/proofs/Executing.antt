@@ -26,7 +26,7 @@ use Rattle.sql_model.proofs.Quieting.{quiet_clean, quiet_keeps, quiet_sees, quie
 use Rattle.sql_model.proofs.Staying.{rowids_stay, stays_twice}
 use Rattle.sql_reads.specs.GoodRows.{IsMemory}
 use Rattle.sql_reads.specs.Reads.{ReadIn}
-use Rattle.sql_reads.proofs.ReadLemmas.{also_ok, not_store, then_err}
+use Rattle.sql_reads.proofs.ReadLemmas.{then_err}
 use Rattle.sql_writes.specs.declared.events.Numbers.{Numbers}
 use Rattle.sql_writes.specs.declared.events.Event.{Event}
 use Rattle.sql_writes.specs.Commits.{CommitsEvent}
@@ -44,10 +44,6 @@ pub record IsUnmoved (s : State) (ask : Option Asked) (asked : Request) (r : Rep
 on_ok_given : {V E : Type 0} (r : Result V E) (A B : Type 0) → (A → OnOk r (A → B)) → OnOk r (A → B)
 on_ok_given (Ok v) A B f = λ a. f a a
 on_ok_given (Err e) A B f = tt
-
-on_ok_from : {V E : Type 0} (r : Result V E) (P : V → Type 0) (B : Type 0) → ((v : V) → P v → B) → IfOk r P → OnOk r B
-on_ok_from (Ok v) P B f p = f v p
-on_ok_from (Err e) P B f p = tt
 
 -- the rows of the event lead to the request's outcome, with this reply and no more rowids than the request has, and are permitted
 pub record LeadsToOutcome (n : Numbers) (e : Event) (ask : Option Asked) (asked : Request) (reply : Reply) (s : State) : Type 0 where
@@ -117,22 +113,33 @@ module _ {S : Type 0} {g : Ghosts S} {ask : Option Asked} {asked : Request} {IsD
       → ((s : State) → IsDueIn s → IsDueThen s) → Executes g a b ask asked IsDueIn reply_of result
   executes_where {a} {b} {IsDueThen} rest then = quiet_then (quiet_alone g a) IsDueThen (λ clean s keeps due. then s due) rest
 
-  -- calls that change nothing: the request is answered without a change, or it fails for a reason
-  quiet_ends : {a b : Held S} → a.in_transaction ≡ false → Quiet g a b → (result : Result V Fault)
-      → (HasCleanDisk (state g b) → (s : State) → Keeps (state g a) s → IsDueIn s → IfOk result (λ v. IsUnmoved s ask asked (reply_of v)))
-      → (IsErrOf result Store → HasCleanDisk (state g b) → (s : State) → IsSpelled s.ledger → Keeps (state g a) s → IsDueIn s → IsUp (state g a)
-      → HasFaulted (state g a) (state g b))
-      → Executes g a b ask asked IsDueIn reply_of result
-  quiet_ends {a} {b} outside quiet result comes fails = record {
+  quiet_alone_is : {a b : Held S} → a.in_transaction ≡ false → Quiet g a b → (v : V)
+      → (HasCleanDisk (state g b) → (s : State) → Keeps (state g a) s → IsDueIn s → IsUnmoved s ask asked (reply_of v))
+      → Executes g a b ask asked IsDueIn reply_of (Ok v)
+  quiet_alone_is {a} {b} outside quiet v comes = record {
     outside = quiet.mode outside;
-    reply = λ clean s keeps due. also_ok result (λ v. IsUnmoved s ask asked (reply_of v)) _ (λ v is. is.replied) (comes clean s keeps due);
-    after = λ s keeps due. on_ok_given result (HasCleanDisk (state g b)) (IsKept (state g b) (outcome s ask asked).state)
-        (λ clean. on_ok_from result (λ v. IsUnmoved s ask asked (reply_of v)) _ (λ v is again. rw is.same (quiet_keeps g a b quiet Two s keeps again))
-        (comes clean s keeps due));
+    reply = λ clean s keeps due. (comes clean s keeps due).replied;
+    after = λ s keeps due clean. subst (IsKept (state g b)) (sym (comes clean s keeps due).same) (quiet_keeps g a b quiet Two s keeps clean);
     left = λ s keeps due clean db may. inl ((quiet_keeps g a b quiet Two s keeps clean).leaves db may);
     memory = λ s keeps ran. quiet_keeps g a b quiet Two s keeps;
     sound = quiet_clean g a b quiet;
-    store = λ clean s spelled keeps due short has up failed. inl (fails failed clean s spelled keeps due up);
+    store = λ clean s spelled keeps due short has up failed. absurd (ok_is_not_err Store failed);
+    rowids = λ clean s keeps due m has up. left_after quiet clean s keeps (asked_rowids ask asked) m has up;
+    up = quiet_up g a b quiet;
+  }
+
+  quiet_fails : {a b : Held S} → a.in_transaction ≡ false → Quiet g a b → (f : Fault)
+      → (f ≡ Store → HasCleanDisk (state g b) → (s : State) → IsSpelled s.ledger → Keeps (state g a) s → IsDueIn s → IsUp (state g a)
+      → HasFaulted (state g a) (state g b))
+      → Executes g a b ask asked IsDueIn reply_of (Err f)
+  quiet_fails {a} {b} outside quiet f fails = record {
+    outside = quiet.mode outside;
+    reply = λ clean s keeps due. tt;
+    after = λ s keeps due. tt;
+    left = λ s keeps due clean db may. inl ((quiet_keeps g a b quiet Two s keeps clean).leaves db may);
+    memory = λ s keeps ran. quiet_keeps g a b quiet Two s keeps;
+    sound = quiet_clean g a b quiet;
+    store = λ clean s spelled keeps due short has up failed. inl (fails (err_is f Store failed) clean s spelled keeps due up);
     rowids = λ clean s keeps due m has up. left_after quiet clean s keeps (asked_rowids ask asked) m has up;
     up = quiet_up g a b quiet;
   }
@@ -140,13 +147,11 @@ module _ {S : Type 0} {g : Ghosts S} {ask : Option Asked} {asked : Request} {IsD
   -- a request that no state has, or that is answered without a call
   pub answers_alone : {a : Held S} → a.in_transaction ≡ false → {v : V} → ((s : State) → IsDueIn s → IsUnmoved s ask asked (reply_of v))
       → Executes g a a ask asked IsDueIn reply_of (Ok v)
-  answers_alone {a} outside {v} comes = quiet_ends outside (quiet_alone g a) (Ok v) (λ clean s keeps due. comes s due)
-      (λ failed. absurd (ok_is_not_err Store failed))
+  answers_alone {a} outside {v} comes = quiet_alone_is outside (quiet_alone g a) v (λ clean s keeps due. comes s due)
 
   pub fails_alone : {a : Held S} → a.in_transaction ≡ false → {f : Fault} → ((s : State) → IsDueIn s → f ≡ Store → ⊥)
       → Executes g a a ask asked IsDueIn reply_of (Err f)
-  fails_alone {a} outside {f} never = quiet_ends outside (quiet_alone g a) (Err f) (λ clean s keeps due. tt)
-      (λ failed clean s spelled keeps due up. absurd (never s due (err_is f Store failed)))
+  fails_alone {a} outside {f} never = quiet_fails outside (quiet_alone g a) f (λ store clean s spelled keeps due up. absurd (never s due store))
 
   -- The request is due on desks alone.
   module _ (is_desk : (s : State) → IsDueIn s → IsDesk s) where
@@ -162,9 +167,10 @@ module _ {S : Type 0} {g : Ghosts S} {ask : Option Asked} {asked : Request} {IsD
         → a.in_transaction ≡ false → ReadIn g a b Two (Ok x) Fits IsRead → (result : Result V Fault) → IfErr result IsMemory
         → ((s : State) → IsDueIn s → IsRead s x → IfOk result (λ v. IsUnmoved s ask asked (reply_of v)))
         → Executes g a b ask asked IsDueIn reply_of result
-    reads_told outside read result memory comes =
-        quiet_ends outside read.quiet result (λ clean s keeps due. comes s due (read.shows clean s (is_desk s due) keeps))
-        (λ failed. absurd (not_store result memory failed))
+    reads_told outside read (Ok v) memory comes =
+        quiet_alone_is outside read.quiet v (λ clean s keeps due. comes s due (read.shows clean s (is_desk s due) keeps))
+    reads_told outside read (Err f) memory comes =
+        quiet_fails outside read.quiet f (λ store clean s spelled keeps due up. absurd (let other : Memory ≡ Store = sym memory ∙ store in cc))
 
     pub reads_alone : {a b : Held S} {X : Type 0} {x : X} {Fits : State → Type 0} {IsRead : State → X → Type 0}
         → a.in_transaction ≡ false → ReadIn g a b Two (Ok x) Fits IsRead → {v : V}
@@ -175,9 +181,9 @@ module _ {S : Type 0} {g : Ghosts S} {ask : Option Asked} {asked : Request} {IsD
     pub reads_fail : {a b : Held S} {X : Type 0} {f : Fault} {result : Result V Fault} {Fits : State → Type 0} {IsShown : State → X → Type 0}
         → result ≡ Err f → a.in_transaction ≡ false → ReadIn g a b Two {V = X} (Err f) Fits IsShown → ((s : State) → IsDueIn s → Fits s)
         → Executes g a b ask asked IsDueIn reply_of result
-    reads_fail {X = X} {f = f} is outside read fits = rw is (quiet_ends outside read.quiet (Err f) (λ clean s keeps due. tt)
-        (λ failed clean s spelled keeps due up.
-        read.store clean s (is_desk s due) spelled keeps (fits s due) up (ap {B = Result X Fault} Err (err_is f Store failed))))
+    reads_fail {a = a} {b = b} {X = X} {f = f} is outside read fits = subst (Executes g a b ask asked IsDueIn reply_of) (sym is)
+        (quiet_fails outside read.quiet f
+        (λ store clean s spelled keeps due up. read.store clean s (is_desk s due) spelled keeps (fits s due) up (ap {B = Result X Fault} Err store)))
 
     -- the same, after reads that succeed
     pub then_fails : {a b c : Held S} {X Y : Type 0} {x : X} {f : Fault} {result : Result V Fault} {Fits Good : State → Type 0}
@@ -193,8 +199,9 @@ module _ {S : Type 0} {g : Ghosts S} {ask : Option Asked} {asked : Request} {IsD
     pub reads_never : {a b : Held S} {X : Type 0} {x : X} {f : Fault} {result : Result V Fault} {Fits : State → Type 0} {IsRead : State → X → Type 0}
         → result ≡ Err f → a.in_transaction ≡ false → ReadIn g a b Two (Ok x) Fits IsRead
         → ((s : State) → IsDueIn s → IsRead s x → f ≡ Store → ⊥) → Executes g a b ask asked IsDueIn reply_of result
-    reads_never {f = f} is outside read never = rw is (quiet_ends outside read.quiet (Err f) (λ clean s keeps due. tt)
-        (λ failed clean s spelled keeps due up. absurd (never s due (read.shows clean s (is_desk s due) keeps) (err_is f Store failed))))
+    reads_never {a = a} {b = b} {f = f} is outside read never = subst (Executes g a b ask asked IsDueIn reply_of) (sym is)
+        (quiet_fails outside read.quiet f
+        (λ store clean s spelled keeps due up. absurd (never s due (read.shows clean s (is_desk s due) keeps) store)))
 
   -- the rows of the outcome are committed, or the commit fails
   module _ {a b : Held S} {n : Numbers} {e : Event} {reply : Reply} (comes : (s : State) → IsDueIn s → LeadsToOutcome n e ask asked reply s) where

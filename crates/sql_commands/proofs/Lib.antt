@@ -1,8 +1,13 @@
 pub mod EventCommits
 pub mod ComingLemmas
+pub mod LeadLemmas
 pub mod Permitted
 pub mod Executing
-pub mod RowLimits
-pub mod LoadLemmas
+pub mod TextLengths
+pub mod LoadComes
+pub mod LoadRows
 pub mod StepLemmas
 pub mod Possible
+pub mod Reasons
+pub mod RowLimits
+pub mod SmallLemmas

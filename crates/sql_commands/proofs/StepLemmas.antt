@@ -1,8 +1,11 @@
 -- What a record implies for its journey, and the decision on a step of it, which is the answer of the rules. For `moves` and
 -- `step_outcome`.
-use Rattle.std.proofs.Common.{◌≡◌, ℕ, true, false, List, Option, Some, None, refl, ap, sym, ◌∙◌, subst, option_map, Result, ◌==◌, Bool, IsTrue, ap₂, eqb-true, ◌↔◌, Ok, Err, IfOk, nat_cmp, arith}
+use Rattle.std.proofs.Common.{◌≡◌, ℕ, true, false, List, Option, Some, None, refl, ap, sym, ◌∙◌, subst, option_map, Result, ◌==◌, Bool, IsTrue, ap₂, eqb-true, ◌↔◌, Ok, Err, IfOk, if◌then◌else◌, ◌&&◌, nat_cmp, nat_lt, not}
 use Rattle.std.specs.FinSet as set
 use Rattle.plan.specs.PlanModel.{Planned}
+use Rattle.plan.specs.Marks.{is_taken_in}
+use Rattle.plan.specs.Turns.{may_be_made, turn_target}
+use Rattle.ledger.specs.JourneyChanges.{target_of}
 use Rattle.plan.specs.declared.turns.Turn.{Turn as Reason}
 use Rattle.plan.specs.declared.turns.Turn.TheVariants as turn
 use Rattle.commands.specs.declared.items.Cause.{Cause}
@@ -24,7 +27,7 @@ use Rattle.sql_commands.specs.Placing.{begun_as, IsSeen}
 use Rattle.std.proofs.lemmas.Bool.{and_parts}
 use Rattle.plan.specs.Rules as rules
 use Rattle.commands.specs.declared.items.Cause.TheVariants.{Stop, Refused, Asked}
-use Rattle.commands.specs.declared.items.Item.TheVariants.{Transaction, Compensation, Turn}
+use Rattle.commands.specs.declared.items.Item.TheVariants.{Transaction, Compensation, Turn, Save}
 use Rattle.commands.specs.declared.items.Phase.{Phase}
 use Rattle.commands.specs.declared.items.Phase.TheVariants.{Run, Ended, Undone}
 use Rattle.ledger.specs.History.{next_want, phase, is_running, is_finished, is_open, may_come}
@@ -46,26 +49,35 @@ record IsShown (l : List Event) (id : ℕ) (r : Record) : Type 0 where
   cursor : r.cursor ≡ cursor_of r.plan (history l id)
   marks : r.marks ≡ marks_of (history l id)
 
--- nothing is none of something
-pub mapped_none : {A B : Type 0} (f : A → B) (o : Option A) → None ≡ option_map f o → o ≡ None
-mapped_none f None e = refl
-mapped_none f (Some a) e = cc
-
--- and something is that of something
-pub mapped_some : {A B : Type 0} (f : A → B) (b : B) (o : Option A) → Some b ≡ option_map f o → (a : A) × (o ≡ Some a) × (b ≡ f a)
-mapped_some f b None e = cc
-mapped_some f b (Some a) e = (a, refl, cc)
+-- it is the record of some journey with the number
+shown_of : (l : List Event) (id : ℕ) (r : Record) (o : Option Journey) → Some r ≡ option_map (record_of_journey (history l id)) o
+    → (a : Journey) × (o ≡ Some a) × (r ≡ record_of_journey (history l id) a)
+shown_of l id r None e = cc
+shown_of l id r (Some a) e = (a, refl, cc)
 
 shown : (l : List Event) (id : ℕ) (r : Record) → Some r ≡ record_of l id → IsShown l id r
 shown l id r e =
-    let of = mapped_some (record_of_journey (history l id)) r (journey_at l id) e in rw of.2 (record { at = of.1; cursor = refl; marks = refl })
+    let of = shown_of l id r (journey_at l id) e in
+    let plan : r.plan ≡ of.0.plan = ap (λ (b : Record). b.plan) of.2 in
+    let cursor : r.cursor ≡ cursor_of of.0.plan (history l id) = ap (λ (b : Record). b.cursor) of.2 in
+    let marks : r.marks ≡ marks_of (history l id) = ap (λ (b : Record). b.marks) of.2 in
+    record {
+      at = of.1 ∙ ap (λ b. Some (begun_as b)) (sym of.2);
+      cursor = cursor ∙ ap (λ p. cursor_of p (history l id)) (sym plan);
+      marks = marks;
+    }
 
 -- a caller who sees the journeys of its agent sees the record
 pub record_seen : (s : State) (who : Option (List ℕ)) (id : ℕ) (r : Record) → Some r ≡ record_of s.ledger id
     → sees who (begun_as r) ≡ true → IsSeen s who id r
 record_seen s who id r e see =
     let is = shown s.ledger id r e in
-    record { at = is.at; seen = seen s.ledger who id (begun_as r) is.at see; cursor = is.cursor; marks = is.marks }
+    record {
+      at = is.at;
+      seen = seen s.ledger who id (begun_as r) is.at see;
+      cursor = is.cursor;
+      marks = is.marks;
+    }
 
 -- a caller who does not see them sees no record
 pub record_unseen : (s : State) (who : Option (List ℕ)) (id : ℕ) (r : Record) → Some r ≡ record_of s.ledger id
@@ -75,26 +87,63 @@ record_unseen s who id r e see = unseen s.ledger who id (begun_as r) (shown s.le
 -- if there is no record, there is no journey
 pub none_seen : (s : State) (who : Option (List ℕ)) (id : ℕ) → None ≡ record_of s.ledger id
     → seen_journey s.ledger who id ≡ None
-none_seen s who id e = seen-none s.ledger who id (mapped_none (record_of_journey (history s.ledger id)) (journey_at s.ledger id) e)
+none_seen s who id e = seen-none s.ledger who id (go (journey_at s.ledger id) e)
+  where
+    go : (o : Option Journey) → None ≡ option_map (record_of_journey (history s.ledger id)) o → o ≡ None
+    go None n = refl
+    go (Some a) n = cc
 
 -- Moves.
 
 -- a record that the caller sees
 module _ (s : State) (legal : IsLegal s.ledger) (who : Option (List ℕ)) (id : ℕ) (r : Record) (is : IsSeen s who id r) where
+  -- the items of the record's journey
+  abbrev items : List Item
+  items = history s.ledger id
+
+  -- the rules on the journey are the rules on the record
+  pub from_history : (choices : Planned → List Item → List Item) (otherwise : Refusal) (next : Result Item Refusal)
+      → Fits id r.plan (cursor_of r.plan items) (answer_move s.ledger id choices otherwise (Some (begun_as r))) next
+      → Fits id r.plan r.cursor (answer_move s.ledger id choices otherwise (seen_journey s.ledger who id)) next
+  from_history choices otherwise next fits =
+      subst (λ (c : Cursor). Fits id r.plan c (answer_move s.ledger id choices otherwise (seen_journey s.ledger who id)) next)
+      (sym is.cursor)
+      (subst (λ o. Fits id r.plan (cursor_of r.plan items) (answer_move s.ledger id choices otherwise o) next) (sym is.seen) fits)
+
+  -- the ruling on a turn is the same by the record and by the journey
+  turn_same : (why : Reason) (cause : Cause) → turn_said r.plan (cursor_of r.plan items) (marks_of items) why cause
+      ≡ turn_said r.plan r.cursor r.marks why cause
+  turn_same why cause =
+      ap (λ c. turn_said r.plan c (marks_of items) why cause) (sym is.cursor)
+      ∙ ap (λ ms. turn_said r.plan r.cursor ms why cause) (sym is.marks)
+
   -- an abort
   pub abort_next : (q : ℕ) (next : Result Item Refusal) → next ≡ turn_said r.plan r.cursor r.marks (turn.Asked q) causes.Asked
       → Fits id r.plan r.cursor (answer_move s.ledger id (abort_choices q) NoSavePoint (seen_journey s.ledger who id)) next
-  abort_next q next said = rw (said, is.cursor, is.marks, is.seen) (abort_ruled s.ledger legal id (begun_as r) is.at q)
+  abort_next q next said =
+      from_history (abort_choices q) NoSavePoint next
+      (subst (Fits id r.plan (cursor_of r.plan items) (answer_move s.ledger id (abort_choices q) NoSavePoint (Some (begun_as r))))
+      (turn_same (turn.Asked q) causes.Asked ∙ sym said)
+      (abort_ruled s.ledger legal id (begun_as r) is.at q))
 
   -- a stop
   pub stop_next : (next : Result Item Refusal) → next ≡ turn_said r.plan r.cursor r.marks turn.Stop causes.Stop
       → Fits id r.plan r.cursor (answer_move s.ledger id stop_choices NoSavePoint (seen_journey s.ledger who id)) next
-  stop_next next said = rw (said, is.cursor, is.marks, is.seen) (stop_ruled s.ledger legal id (begun_as r) is.at)
+  stop_next next said =
+      from_history stop_choices NoSavePoint next
+      (subst (Fits id r.plan (cursor_of r.plan items) (answer_move s.ledger id stop_choices NoSavePoint (Some (begun_as r))))
+      (turn_same turn.Stop causes.Stop ∙ sym said)
+      (stop_ruled s.ledger legal id (begun_as r) is.at))
 
   -- taking a save-point
   pub save_next : (next : Result Item Refusal) → next ≡ save_said r.plan r.cursor r.marks
       → Fits id r.plan r.cursor (answer_move s.ledger id save_choices NoSave (seen_journey s.ledger who id)) next
-  save_next next said = rw (said, is.cursor, is.marks, is.seen) (save_ruled s.ledger legal id (begun_as r) is.at)
+  save_next next said =
+      from_history save_choices NoSave next
+      (subst (Fits id r.plan (cursor_of r.plan items) (answer_move s.ledger id save_choices NoSave (Some (begun_as r))))
+      (ap (λ c. save_said r.plan c (marks_of items)) (sym is.cursor)
+      ∙ ap (λ ms. save_said r.plan r.cursor ms) (sym is.marks) ∙ sym said)
+      (save_ruled s.ledger legal id (begun_as r) is.at))
 
 -- The decision on a step of a journey is the answer of the rules.
 
@@ -151,7 +200,8 @@ pub step_next : (s : State) (legal : IsLegal s.ledger) (who : Option (List ℕ))
     (fit : Bool) → FitsNext r s fit → (decided : Move) → NamesStep r.plan r.marks r.cursor fit decided
     → ((decided ≡ move.Nothing) ↔ IsTrue (is_finished r.cursor.phase)) → (next : Result Item Refusal) → IsSaid s id decided next
     → Fits id r.plan r.cursor (answer_move s.ledger id step_choices NoSavePoint (seen_journey s.ledger who id)) next
-step_next s legal who id r is fit fitting decided one nothing next said = rw (is.cursor, is.seen) (go (is_finished r.cursor.phase) refl)
+step_next s legal who id r is fit fitting decided one nothing next said =
+    from_history s legal who id r is step_choices NoSavePoint next (go (is_finished r.cursor.phase) refl)
   where
     finished_said : (d : Move) → d ≡ move.Nothing → IsSaid s id d next → next ≡ Err Finished
     finished_said move.Nothing e t = t
@@ -160,12 +210,24 @@ step_next s legal who id r is fit fitting decided one nothing next said = rw (is
     go : (v : Bool) → is_finished r.cursor.phase ≡ v
         → Fits id r.plan (cursor_of r.plan (history s.ledger id))
         (answer_move s.ledger id step_choices NoSavePoint (Some (begun_as r))) next
-    go true e = rw (finished_said decided (nothing.1 e) said)
-        (move-finished s.ledger id step_choices NoSavePoint (begun_as r) (ap (λ (c : Cursor). is_finished c.phase) (sym is.cursor) ∙ e))
+    go true e =
+        let answer = move-finished s.ledger id step_choices NoSavePoint (begun_as r)
+        (ap (λ (c : Cursor). is_finished c.phase) (sym is.cursor) ∙ e) in
+        subst (λ n. Fits id r.plan (cursor_of r.plan (history s.ledger id))
+        (answer_move s.ledger id step_choices NoSavePoint (Some (begun_as r))) n)
+        (sym (finished_said decided (nothing.1 e) said)) answer
     go false e =
         let found = one (history s.ledger id)
         (record {
-          has = record { ledger = s.ledger; number = id; journey = begun_as r; legal = legal; at = is.at; planned = refl; past = refl };
+          has = record {
+            ledger = s.ledger;
+            number = id;
+            journey = begun_as r;
+            legal = legal;
+            at = is.at;
+            planned = refl;
+            past = refl;
+          };
           cursor_is = sym is.cursor;
           marks_are = sym is.marks;
         })
@@ -176,13 +238,27 @@ step_next s legal who id r is fit fitting decided one nothing next said = rw (is
         (λ run. fitting (ap (λ (c : Cursor). c.phase) is.cursor ∙ run)
         ∙ ap (λ (c : Cursor). fits s.ledger (rules.next_want r.plan c.pos c.used)) is.cursor) found.2 in
         let item = said_item s id (begun_as r) fit decided next x is.at said found.3 found.2 in
-        rw item (step-answer s.ledger id (begun_as r) x legal is.at found.1 comes)
+        subst (λ n. Fits id r.plan (cursor_of r.plan (history s.ledger id))
+        (answer_move s.ledger id step_choices NoSavePoint (Some (begun_as r))) n) (sym item)
+        (step-answer s.ledger id (begun_as r) x legal is.at found.1 comes)
 
 -- What answers a move is a turn or a save-point.
 
 pub turn_moves : (plan : Planned) (c : Cursor) (marks : set.FinSet nat_cmp) (why : Reason) (cause : Cause)
     → IfOk (turn_said plan c marks why cause) (IsMove c)
-turn_moves plan c marks why cause = grind arith
+turn_moves plan c marks why cause = go (is_finished c.phase) (may_be_made plan (is_taken_in marks) c.pos (target_of c.phase) why)
+  where
+    go : (a b : Bool) → IfOk (if a then Err Finished else if b
+        then Ok (Turn (turn_target plan (is_taken_in marks) c.pos c.used why) cause) else Err NoSavePoint) (IsMove c)
+    go true b = tt
+    go false true = tt
+    go false false = tt
 
 pub save_moves : (plan : Planned) (c : Cursor) (marks : set.FinSet nat_cmp) → IfOk (save_said plan c marks) (IsMove c)
-save_moves plan c marks = grind arith
+save_moves plan c marks =
+    go (is_finished c.phase) (is_running c.phase && nat_lt 0 c.pos && not (rules.is_save_point plan (is_taken_in marks) c.pos c.pos))
+  where
+    go : (a b : Bool) → IfOk (if a then Err Finished else if b then Ok (Save c.pos) else Err NoSave) (IsMove c)
+    go true b = tt
+    go false true = refl
+    go false false = tt

@@ -1,47 +1,48 @@
--- A query whose rows are read one at a time, and why it fails. For the functions that start rows or return the next one.
-use Rattle.std.proofs.Common.{[], ◌≡◌, inl, inr, ℕ, List, ◌∷◌, ◌++◌, map, Bool, true, false, Some, None, Option, Ok, Err, Result, IfOk, OnErr, IsTrue, refl, sym, ap, subst, ◌∙◌, append_assoc, append-nil, length, eq-eqb}
-use Rattle.std.proofs.lemmas.List.{append_cancel_left}
+-- A query whose rows are read one at a time. For the functions that start rows or return the next one.
+use Rattle.std.proofs.Common.{◌≡◌, inl, inr, ℕ, List, [], ◌∷◌, ◌++◌, map, Bool, true, false, Some, None, Option, Ok, Err, Result, IfOk, OnErr, IsTrue, refl, sym, ap, subst, ◌∙◌, append_assoc}
 use Rattle.std.specs.Borrow.{MutBor}
 use Rattle.sqlite.specs.Order.{Row}
 use Rattle.sqlite.specs.Query.{Query, IsAnswer}
 use Rattle.sqlite.specs.Program.{overlay}
-use Rattle.sqlite.specs.Effect.{Database, Reads}
+use Rattle.sqlite.specs.Effect.{Database}
 use Rattle.sqlite.specs.declared.error.Error.{Error}
 use Rattle.sqlite.specs.declared.rows.stream.Rows.{Rows}
 use Rattle.sqlite.specs.Store.{Ghosts}
 use Rattle.sqlite.specs.Held.{Held, state}
 use Rattle.sqlite.specs.Clock.{timed}
 use Rattle.sqlite.specs.Listing.{understood, reads_listing, IsSourceOf}
-use Rattle.sqlite.specs.State.{State, HasCleanDisk, IsUnchanged, IsStatement, Survives, CommitsShowing, Fails}
-use Rattle.sqlite.specs.Given.{HasGiven, HasBegun, IsRefused, Returns, Advances, IsEnded, row_if, FailsToAdvance}
-use Rattle.sqlite.proofs.Callers.{command_of, given_begin, begins_shown, EndsIn, IsPlain}
+use Rattle.sqlite.specs.State.{State, HasCleanDisk, IsUnchanged, IsStatement, Survives, CommitsShowing}
+use Rattle.sqlite.specs.Given.{HasGiven, HasBegun, IsRefused, Returns, Advances, IsEnded, row_if}
+use Rattle.sqlite.proofs.Callers.{command_of, given_begin, begins_shown, EndsIn}
 use Rattle.sqlite_resolve.specs.declared.compiled.Compiled.{Compiled}
 use Rattle.sqlite_resolve.specs.declared.error.CompileError.{CompileError}
 use Rattle.desk_sql.specs.declared.versions.Version.{Version}
 use Rattle.desk_sql.specs.declared.versions.Version.TheVariants.{Two}
-use Rattle.desk_sql.specs.Schema.{IsSchemaOf, schema_with}
+use Rattle.desk_sql.specs.Schema.{IsSchemaOf}
 use Rattle.desk_sql.specs.Meanings.{select}
 use Rattle.desk_sql.specs.Calls.{SeesIn}
-use Rattle.desk_sql.specs.Causes.{HasReason, IsMemory, IsUp}
+use Rattle.desk_sql.specs.Causes.{HasReason, IsMemory}
 use Rattle.desk_sql.specs.Lending.{IsNotBegun}
 use Rattle.desk_sql.specs.Readable.{Each}
 use Rattle.desk_sql.specs.RemainingRows.{HandsFirst, Hands, RunsOn, Rests}
 use Rattle.desk_sql.specs.Rows.{Tables}
 use Rattle.sql_lists.specs.Listing.{Listing, RestsOf, StartsOver}
 use Rattle.desk_sql.proofs.Beginning.{not_begun_sure}
-use Rattle.desk_sql.proofs.Causing.{IsSure, Takes, TakesUnder, takes, of_store, query_reason}
+use Rattle.desk_sql.proofs.Causing.{IsSure, Takes}
 use Rattle.desk_sql.proofs.Meaning.{MeansEach}
 use Rattle.desk_sql.proofs.Selecting.{leaves_no_more, understood_bare}
 use Rattle.desk_sql.proofs.Finding.{whole_answer}
-use Rattle.std.proofs.lemmas.Bool.{and_from, le-leb}
-use Rattle.sqlite.specs.Command.{Command}
-use Rattle.sqlite.specs.Command.TheVariants.{Select}
-use Rattle.sqlite.specs.Stream.{HasRead}
-use Rattle.sqlite.specs.Calls.{database}
-use Rattle.sqlite_schema.specs.declared.program.Program.{Program}
-use Rattle.sqlite_schema.specs.Program.{lets_of}
-use Rattle.sqlite_typing.specs.Types.{accepts_program}
-use Rattle.sqlite_schema.specs.declared.schema.Schema.{Schema}
+
+-- two lists with the same prefix have the same suffix
+same_rest : {X : Type 0} (front xs ys : List X) → front ++ xs ≡ front ++ ys → xs ≡ ys
+same_rest [] xs ys e = e
+same_rest {X} (x ∷ front) xs ys e = let both : x ∷ (front ++ xs) ≡ x ∷ (front ++ ys) = e in
+    let rest : front ++ xs ≡ front ++ ys = cc in same_rest front xs ys rest
+
+nothing_behind : {X : Type 0} (front xs : List X) → front ≡ front ++ xs → xs ≡ []
+nothing_behind [] xs e = sym e
+nothing_behind {X} (x ∷ front) xs e = let both : x ∷ front ≡ x ∷ (front ++ xs) = e in
+    let rest : front ≡ front ++ xs = cc in nothing_behind front xs rest
 
 -- no SELECT returns rows that it writes
 never_returns : (r : Result Compiled CompileError) → ((c : Compiled) → r ≡ Ok c → c.returning ≡ None) → ¬ Returns r
@@ -63,7 +64,7 @@ module _ {S : Type 0} (g : Ghosts S) (text : List ℕ) (q : Query) (names : List
       → IsSourceOf (reads_listing h.schema text) (state g h).now db → EndsIn c.command db (timed params c.formats it.now)
   ends v h schema c db it source =
       let known : c.command ≡ select q names = ap command_of (sym it.is ∙ ap (λ s. understood s text) schema.is) ∙ (m v schema.extra).is in
-      rw known tt
+      subst (λ k. EndsIn k db (timed params c.formats it.now)) (sym known) tt
 
   -- the rows that were returned start an answer
   begin_answer : (v : Version) (h : Held S) (given : List Row) → IsSchemaOf v h.schema → HasGiven g text params h given
@@ -105,7 +106,7 @@ module _ {S : Type 0} (g : Ghosts S) (text : List ℕ) (q : Query) (names : List
       runs.whole rows (subst (λ (d : Database). IsAnswer q (overlay d.trees []) params rows) now a) in
       let all : runs.given ++ (row ∷ more) ≡ runs.given ++ later
       = sym (append_assoc runs.given (row ∷ []) more) ∙ before ((runs.given ++ row ∷ []) ++ more) it.1 in
-      let first : later ≡ row ∷ more = sym (append_cancel_left runs.given (row ∷ more) later all) in (
+      let first : later ≡ row ∷ more = sym (same_rest runs.given (row ∷ more) later all) in (
         more,
         first,
         record {
@@ -122,9 +123,13 @@ module _ {S : Type 0} (g : Ghosts S) (text : List ℕ) (q : Query) (names : List
   stops old new later runs advances =
       let shown = advances text params runs.given runs.gave in
       let answer = (whole_answer text q names (m runs.version) params (state g old) (state g new) (λ _. runs.schema) runs.given shown).1 in
-      append_cancel_left runs.given later [] (sym (runs.whole runs.given answer) ∙ sym (append-nil runs.given))
+      nothing_behind runs.given later (runs.whole runs.given answer)
 
--- the query has no current row
+-- the query has a current row, or none
+stands_at : {S : Type 0} (h : Held S) (has : Bool) (row : Row) → row_if has h ≡ Some row → has ≡ true
+stands_at h true row e = refl
+stands_at h false row e = absurd (cc)
+
 none_there : {S : Type 0} (h : Held S) (has : Bool) → row_if has h ≡ None → has ≡ false
 none_there h true e = absurd (cc)
 none_there h false e = refl
@@ -178,30 +183,25 @@ module _ {I X S : Type 0} {list : Listing I X} (m : IsMeant list) (g : Ghosts S)
   )
 
   module _ (old new : Held S) (has : Bool) (advances : Advances g old new (row_if has new)) where
-    -- the current row of the query is that of the first that remained, and the later ones remain
-    first_there : (row : Row) → row_if has new ≡ Some row → IsUnchanged (state g old) (state g new) → (IsEnded old → has ≡ false)
-        → (later : List X) → RestsOf list g old later
-        → (x : X) × (more : List X) × (later ≡ x ∷ more) × (row ≡ list.shows x) × RestsOf list g new more
-    first_there row stands same ended later (s, inr over) = absurd (let none = rw (ended over.0) at stands in cc)
-    first_there row stands same ended later (s, inl runs) =
+    -- the current row of the query is the first that remained
+    pub hands_row : (row : Row) (found : Option X) → row_if has new ≡ Some row → IsUnchanged (state g old) (state g new)
+        → (IsEnded old → has ≡ false) → ((x : X) → row ≡ list.shows x → found ≡ Some x)
+        → Hands (RestsOf list g old) (RestsOf list g new) found
+    hands_row row found stands same ended back later (s, inr over) =
+        absurd (let no : true ≡ false = sym (stands_at new has row stands) ∙ ended over.0 in cc)
+    hands_row row found stands same ended back later (s, inl runs) =
         let it = steps g (list.text s) (list.query s) m.names (m.means s) runs.0 old new (map list.shows later) row runs.1
-        (rw stands at advances) same in
+        (subst (Advances g old new) stands advances) same in
         go later it.0 it.1 it.2
       where
         go : (later : List X) (more : List Row) → map list.shows later ≡ row ∷ more → RunsOn g (list.text s) (list.query s) runs.0 new more
-            → (x : X) × (others : List X) × (later ≡ x ∷ others) × (row ≡ list.shows x) × RestsOf list g new others
+            → HandsFirst (RestsOf list g new) found later
         go [] more e rest = absurd (cc)
         go (x ∷ later) more e rest =
             let both : list.shows x ∷ map list.shows later ≡ row ∷ more = e in
             let first : row ≡ list.shows x = cc in
             let others : more ≡ map list.shows later = cc in
-            (x, later, refl, first, (s, inl (runs.0, subst (RunsOn g (list.text s) (list.query s) runs.0 new) others rest)))
-
-    pub hands_row : (row : Row) (found : Option X) → row_if has new ≡ Some row → IsUnchanged (state g old) (state g new)
-        → (IsEnded old → has ≡ false) → ((x : X) → row ≡ list.shows x → found ≡ Some x)
-        → Hands (RestsOf list g old) (RestsOf list g new) found
-    hands_row row found stands same ended back later rests =
-        let it = first_there row stands same ended later rests in rw it.2 (back it.0 it.3, it.4)
+            (back x first, (s, inl (runs.0, subst (RunsOn g (list.text s) (list.query s) runs.0 new) others rest)))
 
     -- if the query has no current row, none remained
     pub hands_none : row_if has new ≡ None → (has ≡ false → IsEnded new) → Hands (RestsOf list g old) (RestsOf list g new) None
@@ -216,76 +216,19 @@ module _ {I X S : Type 0} {list : Listing I X} (m : IsMeant list) (g : Ghosts S)
         go [] e = (refl, (s, inr (over (none_there new has none), refl)))
         go (x ∷ later) e = absurd (cc)
 
-    -- if the texts of each of those that remained can be read, the row is not read only out of memory
+    -- it is one of those that remained: if the texts of each can be read, the row is not read only out of memory
     pub read_reason : (row : Row) (e : Error) → row_if has new ≡ Some row → IsUnchanged (state g old) (state g new) → (IsEnded old → has ≡ false)
         → {CanBeRead : X → Type 0} → ((x : X) → row ≡ list.shows x → CanBeRead x → IsMemory e)
         → (later : List X) → RestsOf list g old later → Each CanBeRead later → HasReason (state g old) (state g new) e
-    read_reason row e stands same ended reason later rests each =
-        let it = first_there row stands same ended later rests in inl (reason it.0 it.3 ((rw it.2 at each) it.0 (inl refl)))
-
-module _ {S : Type 0} (g : Ghosts S) {q : Query} (sure : IsSure q) {text : List ℕ} {names : List (List ℕ)}
-    (m : MeansEach text q names) where
-  abbrev program : Program
-  program = record { lets = []; body = q }
-
-  -- a query that reads rows was accepted
-  typed_of : (rows : List Row) (command : Command) (db : Database) (params : Row) → command ≡ Select program names
-      → Reads command db params rows → accepts_program db.schema [] q params ≡ true
-  typed_of rows command db params is reads =
-      let answers = subst (λ k. Reads k db params rows) is reads in answers.typed
-
-  -- and so was one that gave rows
-  accepted : (known : Schema) (params : Row) (h : Held S) (given : List Row) → h.schema ≡ known → (command : Command) (listing : Bool)
-      → command ≡ Select program names → listing ≡ false → h.params ≡ params
-      → HasRead command listing h.schema (g.view h.store) h.params h.step_limit h.reading given
-      → accepts_program known [] q params ≡ true
-  accepted known params h given schema command listing is unlisted same read =
-      let db : read.db ≡ database h.schema (g.view h.store).trees
-      = subst (λ b. IsSourceOf b (database h.schema (g.view h.store).trees) read.db) unlisted read.source in
-      let of : read.db.schema ≡ known = ap (λ (d : Database). d.schema) db ∙ schema in
-      elim read.at [
-        | inl ran ↦ subst (λ s. accepts_program s [] q params ≡ true) of
-            (subst (λ p. accepts_program read.db.schema [] q p ≡ true) same (typed_of _ command read.db h.params is ran.1))
-        | inr runs ↦ (let one : Select runs.0 runs.1 ≡ Select program names = sym runs.2 ∙ is in
-            let plan : runs.0 ≡ program = cc in
-            subst (λ s. accepts_program s [] q params ≡ true) schema
-            (subst (λ p. accepts_program h.schema [] q p ≡ true) same
-            (subst (λ (p : Program). accepts_program h.schema (lets_of p) p.body h.params ≡ true) plan runs.4)))
-      ]
-
-  -- and it takes its parameters
-  takes_given : (v : Version) (params : Row) (h : Held S) (given : List Row) → (of : IsSchemaOf v h.schema) → HasGiven g text params h given
-      → TakesUnder (schema_with v of.extra) text q params
-  unfolding HasGiven
-  takes_given v params h given of it =
-      let schema = of.is in
-      let means = m v of.extra in
-      let c = it.0.found.compiled in
-      let run = it.0.statement in
-      let known : understood (schema_with v of.extra) text ≡ Ok c = ap (λ s. understood s text) (sym schema) ∙ run.is in
-      let plain = subst IsPlain known means.plain in
-      let same : h.params ≡ params
-      = it.0.given ∙ ap (λ f. timed params f run.now) plain.1 ∙ append-nil params in
-      record {
-        whole = subst (λ r. takes (length text) (length params) r ≡ true) (sym known)
-            (and_from _ _ (le-leb _ _ run.whole) (eq-eqb _ _ run.given));
-        typed = accepted (schema_with v of.extra) params h given schema c.command it.0.found.reads_listing
-            (ap command_of (sym known) ∙ means.is)
-            (it.0.reads ∙ ap (λ s. reads_listing s text) schema ∙ means.unlisted) same it.2;
-      }
-
-  -- so the next row is not read only out of memory, or where the disk failed or refused
-  advance_reason_sure : (old new : Held S) (later : List Row) (e : Error) → IsUp (state g old) → Rests g text q old later
-      → FailsToAdvance g old new e → (IsEnded old → Fails (state g old) (state g new) ⊥ e) → HasReason (state g old) (state g new) e
-  advance_reason_sure old new later e up (inr over) fails ended =
-      let why = ended over.0 in of_store (state g old) (state g new) up why.0 e why.1 why.2
-  advance_reason_sure old new later e up (inl runs) fails ended =
-      let v = runs.1.version in
-      query_reason sure (m v) (state g old) (state g new) up runs.1.schema (takes_given v runs.0 old runs.1.given runs.1.schema runs.1.gave) e
-      (fails text runs.0 runs.1.given runs.1.gave)
-
--- the same of the rows of a list
-pub advance_reason : {I X S : Type 0} {list : Listing I X} (m : IsMeant list) (g : Ghosts S) (old new : Held S) (later : List X) (e : Error)
-    → IsUp (state g old) → RestsOf list g old later → FailsToAdvance g old new e
-    → (IsEnded old → Fails (state g old) (state g new) ⊥ e) → HasReason (state g old) (state g new) e
-advance_reason m g old new later e up rests = advance_reason_sure g (m.sure rests.0) (m.means rests.0) old new _ e up rests.1
+    read_reason row e stands same ended reason later (s, inr over) each =
+        absurd (let no : true ≡ false = sym (stands_at new has row stands) ∙ ended over.0 in cc)
+    read_reason row e stands same ended {CanBeRead} reason later (s, inl runs) each =
+        let it = steps g (list.text s) (list.query s) m.names (m.means s) runs.0 old new (map list.shows later) row runs.1
+        (subst (Advances g old new) stands advances) same in
+        go later it.0 it.1 each
+      where
+        go : (later : List X) (more : List Row) → map list.shows later ≡ row ∷ more → Each CanBeRead later → HasReason (state g old) (state g new) e
+        go [] more e each = absurd (cc)
+        go (x ∷ later) more e each =
+            let both : list.shows x ∷ map list.shows later ≡ row ∷ more = e in
+            let first : row ≡ list.shows x = cc in inl (reason x first (each x (inl refl)))

@@ -1,18 +1,10 @@
 -- The holders of the cells that a filter lets through, night by night, are the answer of their query. For `holdings`.
-use Rattle.std.proofs.Common.{[], ◌≡◌, ◌&&◌, ℕ, List, ◌∷◌, Bool, true, Option, None, Some, refl, unwrap_or, ℤ, pos, ◌+◌, ◌+ℤ◌, ◌<◌, ◌^◌, ◌==◌, map, false, is_lt, Ordering, sym, ap, ap₂, subst, ◌∙◌, arith, bytes_eq, nat_le, nat_lt, eq-eqb}
-use Rattle.std.proofs.lemmas.Bool.{and_parts, and_right, eqb-true}
-use Rattle.sqlite_schema.specs.declared.schema.Index.{Index}
-use Rattle.sqlite_typing.specs.Types.{accepts_program}
-use Rattle.allotment.specs.declared.codes.Kind.{Kind}
-use Rattle.allotment.specs.declared.codes.Kind.TheVariants.{Flight}
-use Rattle.desk_sql.specs.Schema.{schema_with}
-use Rattle.desk_sql.specs.declared.versions.Version.{Version}
-use Rattle.desk_sql.specs.declared.versions.Version.TheVariants.{One, Two}
-use Rattle.sql_lists.specs.HoldingLists.{holdings_query, kind_param, name_param, night_param, HoldingRow, Joined, ListsHoldings, holding_found, holding_list, holding_of, holding_shown, holding_tests, holdings_names, holdings_params, holdings_text, is_held_in, is_joined, is_stock_asked, joined_cmp, step_cmp, shows_holding}
+use Rattle.std.proofs.Common.{◌≡◌, ℕ, ℤ, pos, ◌+◌, ◌+ℤ◌, ◌<◌, ◌^◌, ◌==◌, ◌&&◌, List, [], ◌∷◌, map, Bool, true, false, is_lt, Ordering, Option, None, Some, refl, sym, ap, ap₂, subst, ◌∙◌, arith, bytes_eq, nat_le, nat_lt, eq-eqb}
 use Rattle.std.specs.List.{list_all}
 use Rattle.std.specs.Ordering.{int_cmp, nat_cmp, ordering_then}
 use Rattle.std.specs.Cmp.Lexicographic.{slice_cmp}
 use Rattle.std.proofs.lemmas.Int.{ints}
+use Rattle.std.proofs.lemmas.Bool.{and_parts, and_right, eqb-true}
 use Rattle.std.proofs.lemmas.Bool.Decides.{nat_tests}
 use Rattle.std.proofs.lemmas.Slice.Eq.{bytes_eq-Decides}
 use Rattle.sqlite.specs.declared.types.Value.TheVariants.{Text}
@@ -29,10 +21,13 @@ use Rattle.sqlite_sql.specs.declared.ops.CompareOp.TheVariants.{Eq, Ge, Le, Lt}
 use Rattle.sqlite_value.specs.declared.keys.Collation.TheVariants.{Binary}
 use Rattle.sqlite_value.proofs.OrderLemmas.{value_cmp-Int, value_cmp-Text, then-Equal}
 use Rattle.sqlite_tied.specs.Compute.{everything}
-use Rattle.sqlite_trees.proofs.ListLemmas.{ascending_weaker, map-map}
+use Rattle.sqlite_trees.proofs.ListLemmas.{ascending_weaker}
 use Rattle.allotment.specs.Cells.{kind_number}
+use Rattle.allotment.specs.declared.codes.Kind.{Kind}
 use Rattle.saga_core.specs.CellFilters.{is_from, is_kind_asked, is_name_asked, is_night_asked, is_to}
 use Rattle.saga_core.specs.declared.cell_filters.CellFilter.{CellFilter}
+use Rattle.desk_sql.specs.declared.versions.Version.{Version}
+use Rattle.desk_sql.specs.declared.versions.Version.TheVariants.{One, Two}
 use Rattle.desk_sql.specs.FoundRows.{ten_of}
 use Rattle.desk_sql.specs.Lists.{numbered_row}
 use Rattle.desk_sql.specs.Rows.{whole, JourneyRow, StepRow, StockRow, journey_row, step_columns, stock_columns}
@@ -40,47 +35,12 @@ use Rattle.desk_sql.proofs.Causing.{Takes}
 use Rattle.desk_sql.proofs.Meaning.{MeansEach}
 use Rattle.desk_sql.proofs.Testing.{and_true, eq_text, eq_whole, ge_whole, le_whole, truth_is}
 use Rattle.sql_lists.specs.HolderLists.{is_night_of}
+use Rattle.sql_lists.specs.HoldingLists.{HoldingRow, Joined, ListsHoldings, holding_found, holding_list, holding_of, holding_shown, holding_tests, holdings_names, holdings_params, holdings_query, holdings_text, is_held_in, is_joined, is_stock_asked, joined_cmp, kind_param, step_cmp, name_param, night_param, shows_holding}
 use Rattle.sql_lists.specs.declared.holdings.HoldingFound.{HoldingFound}
-use Rattle.sql_lists.proofs.ListAnswers.{number_cmp}
+use Rattle.sql_lists.proofs.HandedCells.{number_cmp}
 use Rattle.sql_lists.proofs.HandedRows.{IsMeant, IsOnlyAnswer}
-use Rattle.sql_lists.proofs.HolderAnswers.{holdings_sure, joined_answers}
-
--- whether a test passes at none, and at a value: that of the option, or any
-abbrev at_both : {X : Type 0} → X → Option X → (Option X → Bool) → Bool
-at_both any o test = test None && test (Some (unwrap_or o any))
-
--- then it passes at the option
-at_option : {X : Type 0} (any : X) (o : Option X) (test : Option X → Bool) → at_both any o test ≡ true → test o ≡ true
-at_option any None test both = (and_parts (test None) (test (Some any)) both).0
-at_option any (Some x) test both = (and_parts (test None) (test (Some x)) both).1
-
--- Each parameter is NULL or a value: a case for each choice, since the library computes the types of a statement from the
--- values that it is given.
-module _ (v : Version) (extra : List Index) (kind : Option Kind) (supplier product : Option (List ℕ)) (first last : Option ℕ) where
-  abbrev typed : Option Kind → Option (List ℕ) → Option (List ℕ) → Option ℕ → Option ℕ → Bool
-  typed k s p a b =
-      accepts_program (schema_with v extra) [] holdings_query (kind_param k ∷ name_param s ∷ name_param p ∷ night_param a ∷ night_param b ∷ [])
-
-  abbrev kinds : Option (List ℕ) → Option (List ℕ) → Option ℕ → Option ℕ → Bool
-  kinds s p a b = at_both Flight kind (λ k. typed k s p a b)
-
-  abbrev suppliers : Option (List ℕ) → Option ℕ → Option ℕ → Bool
-  suppliers p a b = at_both [] supplier (λ s. kinds s p a b)
-
-  abbrev products : Option ℕ → Option ℕ → Bool
-  products a b = at_both [] product (λ p. suppliers p a b)
-
-  all_typed : at_both 0 last (λ b. at_both 0 first (λ a. products a b)) ≡ true → typed kind supplier product first last ≡ true
-  all_typed all =
-      at_option Flight kind (λ k. typed k supplier product first last) (at_option [] supplier (λ s. kinds s product first last)
-      (at_option [] product (λ p. suppliers p first last) (at_option 0 first (λ a. products a last)
-      (at_option 0 last (λ b. at_both 0 first (λ a. products a b)) all))))
-
-pub holdings_typed : (v : Version) (kind : Option Kind) (supplier product : Option (List ℕ)) (first last : Option ℕ) (extra : List Index)
-    → accepts_program (schema_with v extra) [] holdings_query
-    (kind_param kind ∷ name_param supplier ∷ name_param product ∷ night_param first ∷ night_param last ∷ []) ≡ true
-holdings_typed One kind supplier product first last extra = all_typed One extra kind supplier product first last refl
-holdings_typed Two kind supplier product first last extra = all_typed Two extra kind supplier product first last refl
+use Rattle.sql_lists.proofs.HoldingTypes.{holdings_typed}
+use Rattle.sql_lists.proofs.JoinedRows.{holdings_sure, joined_answers, map_map}
 
 -- The text means the query, and takes its parameters.
 
@@ -248,8 +208,8 @@ module _ (f : CellFilter) where
         same = it.same;
         rising = ascending_weaker _ _ (λ a b up. subst (λ o. is_lt o ≡ false) (order_is b a) up) it.values it.rising;
       }) in
-      it.rows_are ∙ ap (map (λ (r : Joined). holding_shown (holding_of r))) values ∙ sym (map-map holding_shown holding_of listed)
-      ∙ ap (map holding_shown) (sym are)
+      let shown : rows ≡ map (λ (r : Joined). holding_shown (holding_of r)) it.values = it.rows_are in
+      shown ∙ ap (map (λ (r : Joined). holding_shown (holding_of r))) values ∙ sym (map_map holding_of holding_shown _ (λ r. refl) listed) ∙ ap (map holding_shown) (sym are)
 
 -- the row that was read is the one that is shown
 pub holding_back : (row : Row) (h : HoldingFound) (x : HoldingRow) → shows_holding h ≡ ten_of row → row ≡ holding_shown x

@@ -1,4 +1,10 @@
-pub mod ListAnswers
+pub mod ListMeanings
 pub mod HandedRows
+pub mod HandedReasons
+pub mod HandedCells
+pub mod CellAnswers
+pub mod JourneyAnswers
 pub mod HolderAnswers
+pub mod JoinedRows
+pub mod HoldingTypes
 pub mod HoldingAnswers

@@ -1,9 +1,9 @@
 -- The rows of a plan that keeps its limits give that plan. For the functions of `plan_rows`.
-use Rattle.std.proofs.Common.{◌≡◌, ℕ, zero, suc, ◌+◌, ◌<◌, List, [], ◌∷◌, ◌++◌, map, drop, length, get_or, Bool, true, false, IsTrue, Option, Some, None, Ok, refl, sym, ap, ◌∙◌, arith, add-one, ◌&&◌, flat_map, slice_get, option_map, option_and_then, string_bytes, unwrap_or, rules, ◌≤◌, take, take_all, append_assoc}
+use Rattle.std.proofs.Common.{◌≡◌, ℕ, zero, suc, ◌+◌, ◌<◌, List, [], ◌∷◌, ◌++◌, map, drop, length, get_or, Bool, true, false, IsTrue, Option, Some, None, Ok, refl, sym, ap, ◌∙◌, arith, add-one, ◌&&◌, flat_map, slice_get, option_map, option_and_then, string_bytes, unwrap_or, rules}
 use Rattle.std.proofs.Math.Seq.{drop-cons, drop-append_seam}
 use Rattle.std.proofs.Math.ListN.{drop_of_length-le}
 use Rattle.std.proofs.lemmas.Bool.{and_parts}
-use Rattle.std.proofs.lemmas.List.{drop-map, drop-drop, length-map, map-append, take_more}
+use Rattle.std.proofs.lemmas.List.{drop-map, drop-drop, length-map}
 use Rattle.allotment.specs.Cells.{kind_number}
 use Rattle.allotment.specs.Texts.{keep_if, kind_of_number}
 use Rattle.allotment.specs.Limits.{is_code, is_night, are_nights, is_count, is_want}
@@ -18,14 +18,10 @@ use Rattle.plan.specs.PlanModel.{Planned, StepPlan, numbered, option_count, step
 use Rattle.desk_sql.specs.Rows.{StepRow}
 use Rattle.desk_sql.specs.FoundRows.{step_of}
 use Rattle.desk_sql.specs.declared.steps.StepFound.{StepFound}
-use Rattle.sql_model.specs.Beginning.{rows_of_option, rows_of_step, first_steps, first_rows_of_step}
-use Rattle.sql_model.specs.ExpectedRows.{counted_from, none_taken, option_row, option_rows, step_rows_of}
+use Rattle.sql_model.specs.Beginning.{rows_of_option, rows_of_step}
+use Rattle.sql_model.specs.ExpectedRows.{counted_from, none_taken, option_row, option_rows}
 use Rattle.sql_model.specs.Reading.{not_taken}
-use Rattle.sql_model.proofs.Numbering.{there_is}
-use Rattle.sql_reads.specs.PlanRows.{first_rows, steps_after, TellsWant, TellsOption, TellStep, TellPlan}
-use Rattle.sql_model.proofs.PlanReading.{option_row-want}
-use Rattle.sql_model.proofs.PlanWriting.{step_rows-all}
-use Rattle.sql_model.proofs.PlanParts.{first_rows_of_step-more, first_rows_of_step-all, step_rows_of-more}
+use Rattle.sql_reads.specs.PlanRows.{first_rows, steps_after, TellsWant}
 
 pub not_both : (b : Bool) → b ≡ true → b ≡ false → ⊥
 not_both b is_true is_false = absurd (let both : true ≡ false = sym is_true ∙ is_false in cc)
@@ -88,12 +84,18 @@ tails x y xs ys e = cc
 
 -- The rows of a step, option by option.
 
+-- within a list there is an element
+pub some_within : {X : Type 0} (xs : List X) (n : ℕ) → n < length xs → (x : X) × (slice_get xs n ≡ Some x)
+some_within [] n low = absurd (omega arith)
+some_within (x ∷ xs) zero low = (x, refl)
+some_within (x ∷ xs) (suc n) low = some_within xs n (omega arith)
+
 option_left : (id i n : ℕ) (o : Option StepPlan) → n < unwrap_or (option_map (λ (s : StepPlan). length s.options) o) 0
     → (x : StepRow) × (unwrap_or (option_map (λ (w : Wanted). option_row id i (unwrap_or (option_map (λ (s : StepPlan). s.is_marked) o) false) (suc n) false w ∷ []) (option_and_then (λ (s : StepPlan). numbered s.options (suc n)) o)) [] ≡ x ∷ [])
     × (drop n (unwrap_or (option_map (λ (s : StepPlan). option_rows none_taken id i s) o) []) ≡ x ∷ drop (suc n) (unwrap_or (option_map (λ (s : StepPlan). option_rows none_taken id i s) o) []))
 option_left id i n None low = absurd (omega arith)
 option_left id i n (Some s) low =
-    let has = there_is s.options n low in
+    let has = some_within s.options n low in
     let row = λ (w : ℕ × Wanted). option_row id i s.is_marked w.0 false w.1 in
     let here : 1 + n ≡ suc n = omega arith in (
       option_row id i s.is_marked (suc n) false has.0,
@@ -128,7 +130,7 @@ rows_count id i o = search (rules, arith, length-map, length-counted)
 pub steps_left : (id : ℕ) (plan : Planned) (n : ℕ) → n < step_count plan
     → steps_after id plan n ≡ rows_of_step id plan (n + 1) ++ steps_after id plan (n + 1)
 steps_left id plan n low =
-    let has = there_is plan.steps n low in
+    let has = some_within plan.steps n low in
     ap (λ ss. flat_map (λ (s : ℕ × StepPlan). option_rows none_taken id s.0 s.1) ss) (counted_at 1 n plan.steps has.0 has.1)
     ∙ ap (λ (m : ℕ). option_rows none_taken id m has.0 ++ steps_after id plan (suc n)) (omega arith)
     ∙ ap (λ o. unwrap_or (option_map (λ (s : StepPlan). option_rows none_taken id (suc n) s) o) [] ++ steps_after id plan (suc n)) (sym has.1)
@@ -148,45 +150,3 @@ steps_next id rows from to plan n low to_is left =
   where
     dropped : (k : ℕ) (xs : List StepFound) → drop k (first_rows id xs) ≡ first_rows id (drop k xs)
     dropped k xs = drop-map not_taken k (map (step_of id) xs) ∙ ap (map not_taken) (drop-map (step_of id) k xs)
-
--- Consecutive rows that are those of a plan. For the functions of `plan_rows`.
-
--- the rows of a list and of its suffix
-first_rows-append : (id : ℕ) (xs ys : List StepFound) → first_rows id (xs ++ ys) ≡ first_rows id xs ++ first_rows id ys
-first_rows-append id xs ys = ap (map not_taken) (map-append (step_of id) xs ys) ∙ map-append not_taken (map (step_of id) xs) (map (step_of id) ys)
-
--- one more option of a step
-pub option_more : (rows : List StepFound) (from n : ℕ) (plan : Planned) (i : ℕ) (row : StepFound) → from + n < length rows → row ≡ get_or rows (from + n) row → n < option_count plan i
-    → TellsOption row plan i (n + 1)
-    → ((id : ℕ) → first_rows id (take (from + n) rows) ≡ first_rows id (take from rows) ++ first_rows_of_step id plan i n)
-    → (id : ℕ) → first_rows id (take (from + (n + 1)) rows) ≡ first_rows id (take from rows) ++ first_rows_of_step id plan i (n + 1)
-option_more rows from n plan i row inside there low tells told id =
-    ap (λ k. first_rows id (take k rows)) (let e : from + (n + 1) ≡ (from + n) + 1 = omega arith in e)
-    ∙ ap (first_rows id) (take_more rows (from + n) row inside ∙ ap (λ x. take (from + n) rows ++ x ∷ []) (sym there))
-    ∙ first_rows-append id (take (from + n) rows) (row ∷ []) ∙ ap (λ ys. ys ++ first_rows id (row ∷ [])) (told id)
-    ∙ append_assoc (first_rows id (take from rows)) (first_rows_of_step id plan i n) (first_rows id (row ∷ []))
-    ∙ ap (λ ys. first_rows id (take from rows) ++ ys)
-    (ap (λ ys. first_rows_of_step id plan i n ++ ys) (sym (tells id)) ∙ sym (first_rows_of_step-more id plan i n low))
-
--- the rows up to the last option are those of the step
-pub step_whole : (rows : List StepFound) (from n : ℕ) (plan : Planned) (i : ℕ) → n ≡ option_count plan i → from + n ≤ length rows
-    → ((id : ℕ) → first_rows id (take (from + n) rows) ≡ first_rows id (take from rows) ++ first_rows_of_step id plan i n)
-    → TellStep rows from plan i (from + n)
-step_whole rows from n plan i all within told = search (rules, arith, first_rows_of_step-all)
-
--- one more step of a plan
-pub step_more : (rows : List StepFound) (from to : ℕ) (plan : Planned) (n : ℕ) → n < step_count plan → TellStep rows from plan (n + 1) to
-    → ((id : ℕ) → first_rows id (take from rows) ≡ step_rows_of id (first_steps n plan))
-    → (id : ℕ) → first_rows id (take to rows) ≡ step_rows_of id (first_steps (n + 1) plan)
-step_more rows from to plan n low step told id =
-    step.told id ∙ ap (λ ys. ys ++ rows_of_step id plan (n + 1)) (told id) ∙ sym (step_rows_of-more id plan n low)
-
--- the rows up to the last step are those of the plan, if no row is left
-pub plan_whole : (rows : List StepFound) (count n : ℕ) (plan : Planned) → n ≡ step_count plan → count ≡ length rows
-    → ((id : ℕ) → first_rows id (take count rows) ≡ step_rows_of id (first_steps n plan)) → TellPlan rows plan
-plan_whole rows count n plan all whole told id =
-    sym (ap (first_rows id) (sym (take_all count rows (omega (arith, whole)))) ∙ told id ∙ ap (λ k. step_rows_of id (first_steps k plan)) all ∙ step_rows-all none_taken id plan)
-
--- the want in a row is that of the option whose row it is
-pub want_one : (id k o : ℕ) (m t : Bool) (row : StepFound) (w v : Wanted) → TellsWant row w → step_of id row ≡ option_row id k m o t v → w ≡ v
-want_one id k o m t row w v tells e = search (rules, arith, option_row-want)

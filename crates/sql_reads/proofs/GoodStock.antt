@@ -1,9 +1,9 @@
 -- A legal ledger calls for rows of cells that keep their limits alone. For the reads of places.
-use Rattle.std.proofs.Common.{◌≡◌, ℕ, ◌≤◌, List, map, filter, Option, Some, None, IsTrue, true, refl, sym, ap, subst, ◌∙◌, arith, ◌-◌, length, nat_le, flat_map, filter_map, option_map, IsUtf8, eqb-true, ◌&&◌}
+use Rattle.std.proofs.Common.{◌≡◌, inl, inr, ℕ, ◌≤◌, List, [], ◌∷◌, map, filter, Option, Some, None, IsTrue, true, refl, sym, ap, subst, ◌∙◌, arith, ◌-◌, length, nat_le, flat_map, filter_map, option_map, IsUtf8, rules, eqb-true, ◌&&◌}
 use Rattle.std.specs.List.{AllByRecursion}
 use Rattle.std.proofs.lemmas.Bool.{and_parts, leb-true}
 use Rattle.std.proofs.lemmas.Slice.Eq.{bytes_eq-Decides}
-use Rattle.sqlite_trees.proofs.ListLemmas.{all_from_map}
+use Rattle.sqlite_trees.proofs.ListLemmas.{all-flat_map}
 use Rattle.sqlite_rules.specs.Lists.{Has}
 use Rattle.sqlite_rules.proofs.ListLemmas.{all_from, all_has, has_filtered, test_has}
 use Rattle.allotment.specs.Cells.{cells_of, is_cell}
@@ -14,7 +14,7 @@ use Rattle.allotment.specs.declared.cells.Row.{Row}
 use Rattle.allotment.proofs.CodeLemmas.{is_short-code}
 use Rattle.allotment.proofs.ShortLemmas.{is_utf8}
 use Rattle.ledger.specs.History.{last_of}
-use Rattle.ledger.specs.Ledger.{Event, rows_of, held, is_good_row, IsLegal}
+use Rattle.ledger.specs.Ledger.{Event, rows_of, held, is_allowed, is_good_row, AreAllowedAfter, IsLegal}
 use Rattle.ledger.proofs.Cells.{is_cell-same}
 use Rattle.saga_core.specs.Views.{Places, places_of, places_shown, at_night}
 use Rattle.desk_sql.specs.Rows.{StockRow}
@@ -22,10 +22,23 @@ use Rattle.desk_sql.specs.declared.stock.NightFound.{NightFound}
 use Rattle.sql_model.specs.Reading.{night_seen}
 use Rattle.sql_model.specs.Standing.{StockStands, places_told}
 use Rattle.sql_model.proofs.StockRows.{stock_at-row}
-use Rattle.sql_model.proofs.Conditions.{rows_good}
-use Rattle.sql_model.proofs.Numbering.{flat_map_has, has_chosen}
-use Rattle.sql_model.proofs.Taken.{last_has}
 use Rattle.sql_reads.specs.GoodRows.{ArePlaces, IsGoodNight, IsGoodStock}
+
+-- the row of a batch keeps its limits
+abbrev IsGood : Row → Type 0
+IsGood r = is_good_row r ≡ true
+
+rows_good : (before : List Event) (e : Event) → IsTrue (is_allowed before e) → AllByRecursion IsGood (rows_of e)
+rows_good before e may = search (rules, arith, and_parts, all_from, test_has)
+
+events_good : (before later : List Event) → AreAllowedAfter before later → AllByRecursion (λ e. AllByRecursion IsGood (rows_of e)) later
+events_good before [] all = tt
+events_good before (e ∷ later) all = (rows_good before e all.0, events_good _ later all.1)
+
+last_has : {X : Type 0} (xs : List X) (x : X) → last_of xs ≡ Some x → Has xs x
+last_has [] x e = absurd (cc)
+last_has (y ∷ []) x e = let same : Some y ≡ Some x = e in inl (let is : x ≡ y = cc in is)
+last_has (y ∷ z ∷ xs) x e = inr (last_has (z ∷ xs) x e)
 
 -- a cell that has an allotment keeps its limits, and so do its places
 pub record IsGoodAt (x : Cell) (p : Places) : Type 0 where
@@ -45,8 +58,7 @@ good_at l legal x p e = go (last_of mine) refl
     go None f = absurd (let none : None ≡ Some p = sym (ap places f) ∙ e in cc)
     go (Some r) f =
         let there = has_filtered (λ (y : Row). is_cell x y.cell) (flat_map rows_of l) r (last_has mine r f) in
-        let event = flat_map_has rows_of l r there.0 in
-        let good = test_has is_good_row (rows_of event.0) r (all_has _ l event.0 (rows_good l legal) event.1) event.2 in
+        let good = all_has IsGood (flat_map rows_of l) r (all-flat_map IsGood rows_of l (events_good [] l legal)) there.0 in
         let parts = and_parts (is_good_cell r.cell) (nat_le r.places most_places) good in
         let few : r.places ≤ most_places = leb-true r.places most_places parts.1 in
         let are : Some (record { allot = r.places; free = r.places - held l x }) ≡ Some p = sym (ap places f) ∙ e in
@@ -58,24 +70,28 @@ good_at l legal x p e = go (last_of mine) refl
 
 -- Nights of a want.
 
--- the night of a cell, with its places
-shown_night : (l : List Event) → IsLegal l → (x : Cell) (p : Option Places) (n : ℕ × Places) → places_of l x ≡ p
-    → option_map (at_night x) p ≡ Some n → IsGoodNight n
-shown_night l legal x None n at e = cc
-shown_night l legal x (Some p) n at e =
-    let good = good_at l legal x p at in
-    let night = (and_parts (is_code x.supplier && is_code x.product) (is_night x.night) good.cell).1 in
-    subst IsGoodNight (let is : at_night x p ≡ n = cc in is) (record { night = night; places = good.places })
+all_unmap : {X Y : Type 0} (f : X → Y) (P : Y → Type 0) (xs : List X) → AllByRecursion P (map f xs) → AllByRecursion (λ x. P (f x)) xs
+all_unmap f P [] all = tt
+all_unmap f P (x ∷ xs) all = (all.0, all_unmap f P xs all.1)
 
 shown_good : (l : List Event) → IsLegal l → (xs : List Cell)
     → AllByRecursion IsGoodNight (filter_map (λ x. option_map (at_night x) (places_of l x)) xs)
-shown_good l legal xs = all_from IsGoodNight _ (λ n h.
-    let x = has_chosen (λ y. option_map (at_night y) (places_of l y)) xs n h in shown_night l legal x.0 (places_of l x.0) n refl x.2)
+shown_good l legal [] = tt
+shown_good l legal (x ∷ xs) = go (places_of l x) refl (shown_good l legal xs)
+  where
+    go : (o : Option Places) → places_of l x ≡ o
+        → AllByRecursion IsGoodNight (filter_map (λ y. option_map (at_night y) (places_of l y)) xs)
+        → AllByRecursion IsGoodNight (filter_map (λ y. option_map (at_night y) (places_of l y)) (x ∷ xs))
+    go None e rest = rw e rest
+    go (Some p) e rest =
+        let good = good_at l legal x p e in
+        let night = (and_parts (is_code x.supplier && is_code x.product) (is_night x.night) good.cell).1 in
+        rw e (record { night = night; places = good.places }, rest)
 
 pub good_nights : (l : List Event) → IsLegal l → (w : Wanted) (found : List NightFound) → map night_seen found ≡ places_shown l w
     → AllByRecursion (λ (n : NightFound). IsGoodNight (night_seen n)) found
 good_nights l legal w found told =
-    all_from_map IsGoodNight night_seen found (subst (AllByRecursion IsGoodNight) (sym told) (shown_good l legal (cells_of w)))
+    all_unmap night_seen IsGoodNight found (subst (AllByRecursion IsGoodNight) (sym told) (shown_good l legal (cells_of w)))
 
 -- Rows of stock.
 

@@ -1,11 +1,8 @@
 -- Rows that are returned one at a time of cells and journeys which keep their limits tell something, and can be read. For `cell_rows` and
 -- `brief_rows`.
-use Rattle.std.proofs.Common.{◌≡◌, inl, List, [], ◌∷◌, map, Some, IsTrue, refl, sym, ap, subst, ◌∙◌, ◌&&◌, IsSome}
+use Rattle.std.proofs.Common.{◌≡◌, inl, inr, List, [], ◌∷◌, map, Some, IsTrue, refl, sym, ap, subst, ◌∙◌, ◌&&◌, IsSome}
 use Rattle.std.specs.List.{AllByRecursion}
 use Rattle.std.proofs.lemmas.Bool.{and_parts}
-use Rattle.sqlite_rules.specs.Lists.{Has}
-use Rattle.sqlite_rules.proofs.ListLemmas.{all_has}
-use Rattle.sqlite_rules.proofs.ProbeLemmas.{has_mapped, mapped_has}
 use Rattle.allotment.specs.Limits.{is_code, is_good_cell, is_night}
 use Rattle.allotment.specs.declared.cells.Cell.{Cell}
 use Rattle.allotment.specs.declared.places.Held.{Held}
@@ -20,15 +17,6 @@ use Rattle.sql_model.proofs.Cursors.{cursor_back}
 use Rattle.sql_reads.specs.GoodRows.{IsGoodStock}
 use Rattle.sql_reads.proofs.GoodStock.{code_text}
 use Rattle.sql_reads.proofs.ReadReasons.{agent_text}
-
--- what each of the remaining rows is, the one that is returned is
-first_is : {X : Type 0} (P : X → Type 0) (Before After : List X → Type 0) (r : X) → Hands Before After (Some r) → (rows : List X)
-    → Before rows → Each P rows → P r
-first_is {X} P Before After r hands rows rests each = go rows (hands rows rests) each
-  where
-    go : (rows : List X) → HandsFirst After (Some r) rows → Each P rows → P r
-    go [] h each = absurd (let none = h.0 in cc)
-    go (x ∷ rows) h each = each r (inl (let first : Some r ≡ Some x = h.0 in cc))
 
 -- Cells.
 
@@ -48,15 +36,21 @@ row_good c good =
       places = record { few = c.1.bounded; free = c.1.within };
     }
 
-rows_good : (cells : List (Cell × Held)) → AreGoodCells cells → Each IsGoodStock (map stock_row_of cells)
-rows_good cells all r h = let c = has_mapped stock_row_of cells r h in subst IsGoodStock (sym c.2) (row_good c.0 (all_has _ cells c.0 all c.1))
-
 pub cell_good : (Before After : List StockRow → Type 0) (r : StockRow) → Hands Before After (Some r) → (cells : List (Cell × Held))
     → Before (map stock_row_of cells) → AreGoodCells cells → IsGoodStock r
-cell_good Before After r hands cells rests good = first_is IsGoodStock Before After r hands (map stock_row_of cells) rests (rows_good cells good)
+cell_good Before After r hands cells rests good = go cells (hands (map stock_row_of cells) rests) good
+  where
+    go : (cells : List (Cell × Held)) → HandsFirst After (Some r) (map stock_row_of cells) → AreGoodCells cells → IsGoodStock r
+    go [] h all = absurd (let none = h.0 in cc)
+    go (c ∷ cells) h all =
+        subst IsGoodStock (sym cc) (row_good c all.0)
 
 pub cells_text : (cells : List (Cell × Held)) → AreGoodCells cells → Each AreCellTexts (map stock_row_of cells)
-cells_text cells all r h = let good = rows_good cells all r h in (code_text r.supplier good.supplier, code_text r.product good.product)
+cells_text [] all r h = absurd h
+cells_text (c ∷ cells) all r (inr h) = cells_text cells all.1 r h
+cells_text (c ∷ cells) all r (inl is) =
+    let good = row_good c all.0 in
+    subst AreCellTexts (sym is) (code_text c.0.supplier good.supplier, code_text c.0.product good.product)
 
 -- Journeys.
 
@@ -73,13 +67,26 @@ row_tells r b is good =
     (subst (λ x. IsTrue (is_agent x)) (sym (ap (λ (x : Short). x.agent) is)) good, subst (λ o. IsSome o) (sym back) refl)
 
 all_tell : (rows : List JourneyRow) (briefs : List Brief) → TellBriefs rows briefs → AreGoodBriefs briefs → Each TellsAll rows
-all_tell rows briefs told good r h =
-    let b = has_mapped short_told briefs (short_of r) (subst (λ xs. Has xs (short_of r)) told (mapped_has short_of rows r h)) in
-    row_tells r b.0 b.2 (all_has _ briefs b.0 good b.1)
+all_tell [] briefs told good r h = absurd h
+all_tell (x ∷ rows) [] told good r h = absurd (cc)
+all_tell (x ∷ rows) (b ∷ briefs) told good r h =
+    let both : short_of x ∷ map short_of rows ≡ short_told b ∷ map short_told briefs = told in
+    let head : short_of x ≡ short_told b = cc in
+    let tail : map short_of rows ≡ map short_told briefs = cc in
+    elim h [
+      | inl is ↦ subst TellsAll (sym is) (row_tells x b head good.0)
+      | inr later ↦ all_tell rows briefs tail good.1 r later
+    ]
 
 pub brief_good : (Before After : List JourneyRow → Type 0) (r : JourneyRow) → Hands Before After (Some r) → (rows : List JourneyRow)
     (briefs : List Brief) → Before rows → TellBriefs rows briefs → AreGoodBriefs briefs → TellsAll r
-brief_good Before After r hands rows briefs rests told good = first_is TellsAll Before After r hands rows rests (all_tell rows briefs told good)
+brief_good Before After r hands rows briefs rests told good = go rows (hands rows rests) (all_tell rows briefs told good)
+  where
+    go : (rows : List JourneyRow) → HandsFirst After (Some r) rows → Each TellsAll rows → TellsAll r
+    go [] h all = absurd (let none = h.0 in cc)
+    go (x ∷ rows) h all =
+        let first : Some r ≡ Some x = h.0 in
+        let is : r ≡ x = cc in all r (inl is)
 
 pub briefs_text : (rows : List JourneyRow) (briefs : List Brief) → TellBriefs rows briefs → AreGoodBriefs briefs → Each IsAgentText rows
 briefs_text rows briefs told good r h = agent_text r.agent (all_tell rows briefs told good r h).0

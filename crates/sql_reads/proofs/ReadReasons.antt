@@ -1,31 +1,30 @@
 -- The rows of a desk that fits can be read. For the functions of `sql_reads`.
-use Rattle.std.proofs.Common.{◌≡◌, ◌≤◌, ◌<◌, ℕ, zero, suc, List, [], ◌∷◌, Option, Some, None, IsTrue, true, false, length, map, refl, sym, ap, subst, ◌∙◌, arith, IsUtf8, IsSome, IfSome, ◌+◌, rules}
+use Rattle.std.proofs.Common.{◌≡◌, ◌≤◌, ◌<◌, inl, inr, ℕ, zero, suc, List, [], ◌∷◌, Option, Some, None, IsTrue, true, false, length, map, refl, sym, ap, subst, ◌∙◌, arith, IsUtf8, IsSome, IfSome, ◌+◌, slice_get, filter_map, rules}
 use Rattle.std.specs.List.{AllByRecursion}
 use Rattle.std.proofs.lemmas.Bool.{and_parts, ltb-true}
 use Rattle.sqlite_rules.specs.Lists.{Has}
-use Rattle.sqlite_rules.proofs.ListLemmas.{all_has, has_filtered, has_got}
-use Rattle.sqlite_trees.proofs.ListLemmas.{all-map, all_from_map, all_of}
+use Rattle.sqlite_rules.proofs.ListLemmas.{all_has, has_filtered}
 use Rattle.allotment.proofs.ShortLemmas.{is_utf8}
+use Rattle.commands.specs.declared.items.Item.{Item}
+use Rattle.commands.specs.declared.items.Item.TheVariants.{Transaction, Compensation, Turn, Save}
 use Rattle.commands.specs.Names.{is_agent}
 use Rattle.commands.proofs.NameLemmas.{agent_is_short}
 use Rattle.plan.specs.PlanModel.{numbered}
 use Rattle.desk_sql.specs.FoundRows.{is_numbered, is_unfinished_after, FindsJourney, FindsNextItem, FindsUnfinished, is_item_after, item_of, journey_of}
 use Rattle.desk_sql.specs.Readable.{HasAgentText, HasMeta, HaveAgentTexts}
-use Rattle.desk_sql.specs.Rows.{Tables, JourneyRow}
+use Rattle.desk_sql.specs.Rows.{Tables, EntryRow, JourneyRow}
 use Rattle.desk_sql.specs.declared.journeys.JourneyFound.{JourneyFound}
 use Rattle.desk_sql.specs.declared.journeys.ItemFound.{ItemFound}
 use Rattle.desk_sql.specs.declared.versions.Version.{Version}
 use Rattle.desk_sql.proofs.Members.{permutation_from}
 use Rattle.ledger.specs.Answer.{State, most_events}
-use Rattle.ledger.specs.Ledger.{Event, Journey, journeys, journey_at, history}
+use Rattle.ledger.specs.Ledger.{Event, Loaded, Began, Did, Journey, journeys, journey_at, history}
 use Rattle.saga_core.specs.Views.{cursor_of}
-use Rattle.sql_model.specs.ExpectedRows.{Begun, begun, begun_of, meta_in}
+use Rattle.sql_model.specs.ExpectedRows.{Begun, begun, begun_of, counted_from, entry_row_if, entry_row_of, meta_in}
 use Rattle.sql_model.specs.Reading.{cursor_in}
 use Rattle.sql_model.specs.Standing.{StandsIn}
 use Rattle.sql_model.specs.Spelling.{IsSpelled}
 use Rattle.sql_model.proofs.Cursors.{cursor_back}
-use Rattle.sql_model.proofs.NextItems.{entries_from-within}
-use Rattle.sql_model.proofs.Numbering.{counted_stands, has_chosen, there_low}
 use Rattle.sql_model.proofs.JourneyRows.{journey_begins, journey_told, next_above}
 use Rattle.sql_reads.specs.Reading.{row_of}
 
@@ -36,8 +35,12 @@ false_is_not_true is = cc
 -- what is told of each row is something
 pub all_some : {X Y : Type 0} (f : X → Option Y) (xs : List X) (ys : List Y) → map f xs ≡ map Some ys
     → AllByRecursion (λ x. IsSome (f x)) xs
-all_some {X} {Y} f xs ys e =
-    all_from_map IsSome f xs (subst (AllByRecursion IsSome) (sym e) (all-map IsSome Some ys (all_of (λ y. IsSome (Some y)) (λ y. refl) ys)))
+all_some f [] ys e = tt
+all_some f (x ∷ xs) [] e = absurd (cc)
+all_some {X} {Y} f (x ∷ xs) (y ∷ ys) e =
+    let both : f x ∷ map f xs ≡ Some y ∷ map Some ys = e in
+    let head : f x ≡ Some y = cc in
+    (subst (λ o. IsSome o) (sym head) refl, all_some f xs ys cc)
 
 -- Rows of journeys.
 
@@ -48,18 +51,40 @@ agent_text bytes good = is_utf8 bytes (and_parts _ _ (agent_is_short bytes good)
 -- there are no more journeys than events
 pub few_journeys : (l : List Event) → length (journeys l) ≤ length l
 few_journeys [] = omega arith
-few_journeys (e ∷ l) = search (rules, arith, few_journeys l)
+few_journeys (Loaded name rows ∷ l) = omega (arith, few_journeys l)
+few_journeys (Began agent plan ∷ l) = omega (arith, few_journeys l)
+few_journeys (Did journey item ∷ l) = omega (arith, few_journeys l)
 
 -- no journey was begun by an event after the last one
-begun_told : (n : ℕ) (e : Event) (b : Begun) → begun_of n e ≡ Some b → b.num ≡ n
-begun_told n e b is = search (rules, arith)
-
-begun_low : (l : List Event) (b : Begun) → Has (begun l) b → b.num < 1 + length l
-begun_low l b h = search (rules, arith, has_chosen, begun_told, counted_stands, there_low)
+begun_low : (first : ℕ) (l : List Event) (i : ℕ) (b : Begun)
+    → slice_get (filter_map (λ (e : ℕ × Event). begun_of e.0 e.1) (counted_from first l)) i ≡ Some b → b.num < first + length l
+begun_low first [] i b e = absurd (cc)
+begun_low first (Loaded name rows ∷ l) i b e = let low = begun_low (suc first) l i b e in omega (arith, low)
+begun_low first (Did journey item ∷ l) i b e = let low = begun_low (suc first) l i b e in omega (arith, low)
+begun_low first (Began agent plan ∷ l) zero b e =
+    let same : Some (record { num = first; journey = record { agent = agent; plan = plan } }) ≡ Some b = e in
+    let is : first ≡ b.num = cc in omega (arith, is)
+begun_low first (Began agent plan ∷ l) (suc i) b e = let low = begun_low (suc first) l i b e in omega (arith, low)
 
 pub number_low : (l : List Event) (id : ℕ) (b : Begun) → numbered (begun l) id ≡ Some b → b.num ≤ length l
 number_low l zero b e = absurd (cc)
-number_low l (suc i) b e = let low = begun_low l b (has_got (begun l) i b e) in omega (arith, low)
+number_low l (suc i) b e = let low = begun_low 1 l i b e in omega (arith, low)
+
+-- nor was an item made by one
+entry_low : (first : ℕ) (l : List Event) (r : EntryRow)
+    → Has (filter_map (λ (e : ℕ × Event). entry_row_if e.0 e.1) (counted_from first l)) r → r.num < first + length l
+entry_low first [] r h = absurd h
+entry_low first (Loaded name rows ∷ l) r h = let low = entry_low (suc first) l r h in omega (arith, low)
+entry_low first (Began agent plan ∷ l) r h = let low = entry_low (suc first) l r h in omega (arith, low)
+entry_low first (Did journey item ∷ l) r (inl is) =
+    let number : r.num ≡ first = ap (λ (x : EntryRow). x.num) is ∙ own item in omega (arith, number)
+  where
+    own : (i : Item) → (entry_row_of first journey i).num ≡ first
+    own (Transaction step option) = refl
+    own (Compensation step option) = refl
+    own (Turn target cause) = refl
+    own (Save position) = refl
+entry_low first (Did journey item ∷ l) r (inr h) = let low = entry_low (suc first) l r h in omega (arith, low)
 
 -- meta has its row
 pub meta_there : {v : Version} (t : Tables) (s : State) → StandsIn v t s → HasMeta t
@@ -121,5 +146,5 @@ module _ {v : Version} (t : Tables) (s : State) (st : StandsIn v t s) (spelled :
   item_early journey after None finds = tt
   item_early journey after (Some i) finds =
       let has = (has_filtered (is_item_after journey after) t.entries (item_of journey i) finds.0).0 in
-      let low = entries_from-within 1 s.ledger (item_of journey i) (permutation_from _ t.entries (item_of journey i) st.entries has) in
-      omega (arith, low.1, spelled.few)
+      let low = entry_low 1 s.ledger (item_of journey i) (permutation_from _ t.entries (item_of journey i) st.entries has) in
+      omega (arith, low, spelled.few)

@@ -1,3 +1,4 @@
+pub mod OptionLemmas
 pub mod Doing
 pub mod Permitting
 pub mod CommitLemmas

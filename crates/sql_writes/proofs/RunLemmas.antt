@@ -121,13 +121,13 @@ short_run (c ∷ cells) first is run short =
     (nights_all Fit (λ _ it. it) (length (c ∷ cells)) (stock_row_of c) (subst HasShortTexts (sym same) short)))
 
 -- a run from its first cell to this night
-pub record IsRunTo (run : List (Cell × Held)) (first : Cell × Held) (night : ℕ) : Type 0 where
+record IsRunTo (run : List (Cell × Held)) (first : Cell × Held) (night : ℕ) : Type 0 where
   pub n : ℕ
   pub rows : map stock_row_of run ≡ nights_from (stock_row_of first) (suc n)
   pub at : night ≡ (stock_row_of first).night + n
 
-pub run_to : (run : List (Cell × Held)) (first last : Cell × Held)
-    → slice_get run 0 ≡ Some first → slice_get run (length run - 1) ≡ Some last → IsRun run → (night : ℕ) → night ≡ last.0.night → IsRunTo run first night
+run_to : (run : List (Cell × Held)) (first last : Cell × Held) → slice_get run 0 ≡ Some first → slice_get run (length run - 1) ≡ Some last → IsRun run
+    → (night : ℕ) → night ≡ last.0.night → IsRunTo run first night
 run_to [] first last is_first is_last is_run night is_night = absurd (cc)
 run_to (c ∷ cells) first last is_first is_last is_run night is_night =
     let one : Some c ≡ Some first = is_first in
@@ -143,9 +143,14 @@ run_to (c ∷ cells) first last is_first is_last is_run night is_night =
     }
 
 -- A run whose cells were given the places in the rows that there are.
-module _ {run : List (Cell × Held)} {first : Cell × Held} {night : ℕ} (shape : IsRunTo run first night) (t : Tables) (apart : MayLoad t) where
+module _ (run : List (Cell × Held)) (first last : Cell × Held) (is_first : slice_get run 0 ≡ Some first)
+    (is_last : slice_get run (length run - 1) ≡ Some last) (is_run : IsRun run) (night : ℕ) (is_night : night ≡ last.0.night)
+    (t : Tables) (apart : MayLoad t) where
   abbrev pub given : Tables
   given = sets_until (stock_row_of first) night t
+
+  shape : IsRunTo run first night
+  shape = run_to run first last is_first is_last is_run night is_night
 
   abbrev s : StockRow
   s = stock_row_of first

@@ -1,22 +1,9 @@
--- The tables of a new desk: what is left where one transaction was to create them, and the rowids that they leave.
-use Rattle.std.proofs.Common.{◌≡◌, ◌<◌, ◌^◌, ℕ, ℤ, List, [], ◌∷◌, true, map, refl, sym, subst, ◌∙◌, eq-eqb, arith, ◌==◌, ◌⊎◌, ◌↔◌, inl, inr, Ok, false, IsTrue, rules}
-use Rattle.std.specs.List.Sorted.{IsPermutation}
-use Rattle.std.proofs.lemmas.Bool.{and_from}
-use Rattle.std.proofs.lemmas.List.{nil_from_length}
-use Rattle.std.proofs.lemmas.List.Sorted.{length_permutation}
-use Rattle.std.proofs.lemmas.Slice.Eq.{bytes_eq-Decides}
-use Rattle.sqlite.specs.Order.{Row}
-use Rattle.sqlite.specs.Store.{Ghosts}
-use Rattle.sqlite.specs.Held.{state, Held}
-use Rattle.sqlite.specs.State.{State as Connected, HasCleanDisk, Survives, IsRolledBack, Shows as ShowsNow}
-use Rattle.desk_sql.specs.FoundRows.{is_for}
-use Rattle.desk_sql.specs.Lists.{IsTableOf, numbered_row}
-use Rattle.desk_sql.specs.Rows.{AnswerRow, MarkRow, StockRow, answer_columns, batch_columns, mark_columns, step_columns, stock_columns}
-use Rattle.desk_sql.specs.Writable.{AreLow, HasRowids}
-use Rattle.ledger.specs.Answer.{nothing_kept, start, State}
-use Rattle.sql_model.specs.Keeping.{SeesDesk, Sees as SeesFound, WasClean}
-use Rattle.sql_model.specs.Standing.{AnswersStand, MarksStand, StockStands, is_mark_at}
+-- What is left of a store without tables where one transaction was to create those of a desk, and why it did not. For found_tables.
+use Rattle.std.proofs.Common.{◌≡◌, ◌⊎◌, ◌↔◌, inl, inr, true, Ok, refl, subst, false, IsTrue, sym, ◌∙◌, rules, arith}
 use Rattle.sqlite.specs.Tree.{Trees}
+use Rattle.sqlite.specs.Store.{Ghosts}
+use Rattle.sqlite.specs.Held.{Held, state}
+use Rattle.sqlite.specs.State.{HasCleanDisk, Survives, IsRolledBack, Shows as ShowsNow}
 use Rattle.sqlite.specs.Steps.{FailsToCommit}
 use Rattle.sqlite.specs.declared.error.Error.{Error}
 use Rattle.sqlite.specs.declared.error.Error.TheVariants.{SqliteFailure}
@@ -27,74 +14,49 @@ use Rattle.desk_sql.specs.Causes.{HasFaulted, HasReason, IsUp}
 use Rattle.desk_sql.specs.Changes.{founded}
 use Rattle.desk_sql.specs.Schema.{no_schema}
 use Rattle.sql_model.proofs.Staying.{commit_why, faulted_earlier, faulted_later, of_error, stays_begun, stays_committing, stays_twice, stays_up}
+use Rattle.tables.specs.Opening.{FoundingRanOut, FailsOpening, FailsToOpen, Opens}
 use Rattle.sqlite.proofs.StateLemmas.{survives_then}
 use Rattle.sqlite.proofs.Callers.{survives_begin}
 use Rattle.commands.specs.declared.replies.Fault.TheVariants as fault
 use Rattle.desk_sql.specs.declared.versions.Version.{Version}
 use Rattle.desk_sql.specs.declared.versions.Version.TheVariants.{Two}
+use Rattle.ledger.specs.Answer.{State}
+use Rattle.sql_model.specs.Keeping.{Sees as SeesFound, WasClean}
 use Rattle.sql_writes.proofs.CommitLemmas.{KeepsOne}
-use Rattle.tables.specs.Acting.{NewDeskMayAct}
-use Rattle.tables.specs.declared.books.TableBook.{TableBook}
-use Rattle.tables.proofs.CountLemmas.{start_spelled}
-use Rattle.tables.specs.Opening.{FoundingRanOut, FailsOpening, FailsToOpen, Opens}
 use Rattle.tables.specs.Keeping.{IsFound, IsKept}
 use Rattle.tables.specs.declared.faults.OpenFault.{OpenFault}
 use Rattle.tables.specs.declared.faults.OpenFault.TheVariants.{Memory, Store}
 use Rattle.tables.proofs.OpenKept.{either_means, gone_back, has_founded, keeps_founded, not_bare, rolled_back, still_bare, tells_fault, was_new}
 
--- The tables of a new desk have no row but that of meta, so all rowids are left.
+module _ {S : Type 0} (g : Ghosts S) (old late end : Held S) (bare : (state g old).now.schema ≡ no_schema) (up : IsUp (state g old))
+    (clean : HasCleanDisk (state g late)) where
+  abbrev at_begin : Held S
+  at_begin = record old { in_transaction = true }
 
-no_stock : (rows : List StockRow) → StockStands [] rows → rows ≡ []
-no_stock [] st = refl
-no_stock (r ∷ rows) st = let each = st.each st.known.0.0 in grind (arith, each)
+  -- a transaction over a store without tables may create them
+  may_build : MayBuild no_schema (state g at_begin)
+  may_build = record { inside = refl; empty = λ _. record { is = bare; empty = tt } }
 
-no_answer : (rows : List AnswerRow) → AnswersStand nothing_kept rows → rows ≡ []
-no_answer [] st = refl
-no_answer (r ∷ rows) st =
-    let own : is_for r.agent r.mark r ≡ true = and_from _ _ ((bytes_eq-Decides r.agent r.agent).1 refl) ((bytes_eq-Decides r.mark r.mark).1 refl) in
-    let each = st.each r.agent r.mark in
-    grind (arith, own, each)
+  -- tables that were not created are Store only where the disk failed or refused
+  not_created : (Ends : Trees → Type 0) → Survives (state g late) (state g end) Ends → (e : Error) (f : Fault)
+      → (HasCleanDisk (state g late) → MayBuild no_schema (state g at_begin) → IsUp (state g at_begin) → HasReason (state g at_begin) (state g late) e)
+      → (f ≡ fault.Memory ↔ e ≡ SqliteFailure OutOfMemory) → f ≡ fault.Store → HasFaulted (state g old) (state g end)
+  not_created Ends back e f fails memory store = search (rules, arith, may_build, of_error, faulted_earlier)
 
-no_mark : (rows : List MarkRow) → MarksStand [] rows → rows ≡ []
-no_mark [] st = refl
-no_mark (r ∷ rows) st =
-    let own : is_mark_at r.journey r.pos r ≡ true =
-    and_from (r.journey == r.journey) (r.pos == r.pos) (eq-eqb r.journey r.journey refl) (eq-eqb r.pos r.pos refl) in
-    let each = st.each r.journey r.pos in
-    grind (arith, own, each)
-
--- a permutation of no row is no row
-no_more : {X : Type 0} (rows : List X) → IsPermutation [] rows → rows ≡ []
-no_more {X} rows same = nil_from_length rows (length_permutation [] rows same)
-
--- a table of no values has no row, so all rowids are left
-all_low : {X : Type 0} (columns : X → Row) (rows : List Row) (values : List X) (n : ℕ) → IsTableOf columns rows values → values ≡ []
-    → AreLow n rows
-all_low {X} columns rows values n table none = go table.numbered (sym table.values_are ∙ none) table.rows_are
-  where
-    go : (ps : List (ℤ × X)) → map (λ (p : ℤ × X). p.1) ps ≡ [] → rows ≡ map (numbered_row columns) ps → AreLow n rows
-    go [] empty is = subst (AreLow n) (sym is) tt
-    go (p ∷ ps) empty is = cc
-
-new_desk_rowids : (c : Connected) → SeesDesk c start → (m : ℕ) → m < 2 ^ 63 → HasRowids m c.now.trees
-new_desk_rowids c sees m few = record {
-  few = few;
-  stock = all_low stock_columns _ sees.tables.stock m sees.shown.stock (no_stock sees.tables.stock sees.stands.stock);
-  batch = all_low batch_columns _ sees.tables.batch m sees.shown.batch (no_more sees.tables.batch sees.stands.batch);
-  step = all_low step_columns _ sees.tables.step m sees.shown.step (no_more sees.tables.step sees.stands.step);
-  answer = all_low answer_columns _ sees.tables.answer m sees.shown.answer (no_answer sees.tables.answer sees.stands.answer);
-  mark = all_low mark_columns _ sees.tables.mark m sees.shown.mark (no_mark sees.tables.mark sees.stands.mark);
-}
-
-pub new_desk_may_act : {S : Type 0} (g : Ghosts S) (b : TableBook S g) → NewDeskMayAct g b
-new_desk_may_act g b clean stands up m few = record {
-  stands = stands;
-  spelled = start_spelled;
-  up = up;
-  rowids = new_desk_rowids (state g b.conn) ((stands.keeps clean).sees up.is_open) m few;
-}
-
--- What is left of a store without tables where one transaction was to create those of a desk, and why it did not.
+  -- tables that were not committed are Store only there, or where the commit ran out of memory
+  not_committed : Survives (state g at_begin) (state g late) (λ _. ⊥) → Founds g at_begin late {V = Unit {0}} (Ok tt) founded
+      → (e : Error) → FailsToCommit (state g late) (state g end) e
+      → HasFaulted (state g old) (state g end) ⊎ FoundingRanOut g old end
+  not_committed less founds e failed =
+      let makes : Makes (state g at_begin) (state g late) founded = founds clean may_build in
+      elim (commit_why (state g late) (state g end) e makes.is_open makes.inside failed) [
+        | inl faulted ↦ inl (faulted_later (state g at_begin) (state g late) (state g end) less.counts faulted)
+        | inr is ↦ inr (record {
+          late = late;
+          founds = makes;
+          failed = subst (λ x. FailsToCommit (state g late) (state g end) x) is failed;
+        })
+      ]
 
 -- a transaction began on a connection without tables, came as far as `late`, and is over at `end`, committed or not
 module _ {S : Type 0} (g : Ghosts S) (old late end : Held S) (was : Idle old) (bare : old.schema ≡ no_schema)
@@ -108,26 +70,6 @@ module _ {S : Type 0} (g : Ghosts S) (old late end : Held S) (was : Idle old) (b
 
   at_first : WasClean g old end
   at_first clean = omega (arith, less.clean, at_late clean)
-
-  -- a transaction over a store without tables may create them
-  may_build : MayBuild no_schema (state g begun)
-  may_build = record { inside = refl; empty = λ _. record { is = bare; empty = tt } }
-
-  -- tables that were not created are Store only where the disk failed or refused
-  not_created : IsUp (state g old) → HasCleanDisk (state g late) → (e : Error) (f : Fault)
-      → (HasCleanDisk (state g late) → MayBuild no_schema (state g begun) → IsUp (state g begun) → HasReason (state g begun) (state g late) e)
-      → (f ≡ fault.Memory ↔ e ≡ SqliteFailure OutOfMemory) → f ≡ fault.Store → HasFaulted (state g old) (state g end)
-  not_created up clean e f fails memory store = search (rules, arith, may_build, of_error, faulted_earlier)
-
-  -- tables that were not committed are Store only there, or where the commit ran out of memory
-  not_committed : HasCleanDisk (state g late) → Founds g begun late {V = Unit {0}} (Ok tt) founded
-      → (e : Error) → FailsToCommit (state g late) (state g end) e → HasFaulted (state g old) (state g end) ⊎ FoundingRanOut g old end
-  not_committed clean founds e failed =
-      let makes : Makes (state g begun) (state g late) founded = founds clean may_build in
-      elim (commit_why (state g late) (state g end) e makes.is_open makes.inside failed) [
-        | inl faulted ↦ inl (faulted_later (state g begun) (state g late) (state g end) less.counts faulted)
-        | inr is ↦ inr (record { late = late; founds = makes; failed = subst (λ x. FailsToCommit (state g late) (state g end) x) is failed })
-      ]
 
   -- it is as an opening asks for it
   still_idle : Idle end
@@ -182,30 +124,34 @@ module _ {S : Type 0} (g : Ghosts S) (old late end : Held S) (was : Idle old) (b
         });
     told = tt;
     store = keeps_none Store;
-    founds = λ clean none up is. not_committed (at_late clean) made e (failed clean);
+    founds = λ clean none up is. not_committed g old late end none up (at_late clean) less made e (failed clean);
     idle = still_idle;
     sound = at_first;
   }
 
-  -- they were not created, and the transaction was rolled back
-  pub not_made : ((db : Trees) → Commits db → ⊥) → CommitsNothing g begun late
-      → (HasCleanDisk (state g end) → IsRolledBack (state g late) (state g end)) → (e : Error) (f : Fault) (r : OpenFault)
-      → (HasCleanDisk (state g late) → MayBuild no_schema (state g begun) → IsUp (state g begun) → HasReason (state g begun) (state g late) e)
-      → (f ≡ fault.Memory ↔ e ≡ SqliteFailure OutOfMemory) → (r ≡ Memory ↔ f ≡ fault.Memory) → (r ≡ Store ↔ f ≡ fault.Store)
-      → FailsOpening g old end r
-  not_made none commits back e f r fails of memory store =
-      let whole : LeavesNoMore g old end = survives_begin g old (state g end) (λ _. ⊥)
-      (survives_then _ _ _ (λ _. ⊥) Commits (λ _. ⊥) (λ _ db h. h) (λ _ db made. none db made) less over) in
-      record {
-        stands = λ v s stood clean. (
-            let found = stood (at_first clean) in
-            record {
-              sees = bare_again commits back clean v s found;
-              leaves = λ db may. elim (whole.crash clean db may) [ inl before ↦ found.leaves db before | inr made ↦ absurd made ];
-            });
-        told = tells_fault g old end f r memory store whole;
-        store = keeps_none r;
-        founds = λ clean none up is. inl (not_created up (at_late clean) e f fails of (store.0 is));
-        idle = still_idle;
-        sound = at_first;
-      }
+-- they were not created, and the transaction was rolled back
+pub not_made : {S : Type 0} (g : Ghosts S) (old late end : Held S) → Idle old → (bare : old.schema ≡ no_schema)
+    → (less : LeavesNoMore g (record old { in_transaction = true }) late) → end.in_transaction ≡ false
+    → (over : LeavesNoMore g late end) → CommitsNothing g (record old { in_transaction = true }) late
+    → (HasCleanDisk (state g end) → IsRolledBack (state g late) (state g end)) → (e : Error) (f : Fault) (r : OpenFault)
+    → (HasCleanDisk (state g late) → MayBuild no_schema (state g (record old { in_transaction = true }))
+    → IsUp (state g (record old { in_transaction = true })) → HasReason (state g (record old { in_transaction = true })) (state g late) e)
+    → (f ≡ fault.Memory ↔ e ≡ SqliteFailure OutOfMemory) → (r ≡ Memory ↔ f ≡ fault.Memory) → (r ≡ Store ↔ f ≡ fault.Store)
+    → FailsOpening g old end r
+not_made g old late end was bare less ended over commits back e f r fails of memory store =
+    let whole : LeavesNoMore g old end = survives_begin g old (state g end) (λ _. ⊥)
+    (survives_then _ _ _ (λ _. ⊥) (λ _. ⊥) (λ _. ⊥) (λ _ db h. h) (λ _ db h. h) less over) in
+    record {
+      stands = λ v s stood clean. (
+          let found = stood (at_first g old late end was bare less ended over clean) in
+          record {
+            sees = bare_again g old late end was bare less ended over commits back clean v s found;
+            leaves = λ db may. elim (whole.crash clean db may) [ inl before ↦ found.leaves db before | inr none ↦ absurd none ];
+          });
+      told = tells_fault g old end f r memory store whole;
+      store = keeps_none g old late end was bare less ended over r;
+      founds = λ clean none up is. inl (not_created g old late end none up (at_late g old late end was bare less ended over clean) (λ _. ⊥) over e f
+          fails of (store.0 is));
+      idle = still_idle g old late end was bare less ended over;
+      sound = at_first g old late end was bare less ended over;
+    }

@@ -1,18 +1,19 @@
 -- What a transaction that makes the index leaves, however it ends, and what the reading before it says. For the functions of `indexing`.
-use Rattle.std.proofs.Common.{◌≡◌, ◌≢◌, ◌↔◌, ◌+◌, ◌<◌, inl, inr, suc, length, List, [], ◌∷◌, true, false, Result, Ok, Err, IsTrue, refl, sym, ap, subst, ◌∙◌, arith, rules}
+use Rattle.std.proofs.Common.{◌≡◌, ◌≢◌, ◌↔◌, ◌+◌, ◌<◌, inl, inr, ℕ, suc, List, [], ◌∷◌, length, true, false, Result, Ok, Err, IsTrue, refl, sym, ap, subst, ◌∙◌, arith, rules}
 use Rattle.std.specs.Prelude.{⊤}
 use Rattle.sqlite.specs.Store.{Ghosts}
+use Rattle.sqlite.specs.Effect.{Database, IsDatabase}
 use Rattle.sqlite.specs.Held.{Held, state}
 use Rattle.sqlite.specs.Steps.{FailsToCommit}
 use Rattle.sqlite.specs.declared.error.Error.{Error}
-use Rattle.sqlite.specs.State.{HasCleanDisk, IsRolledBack, Survives, Shows as ShowsNow}
+use Rattle.sqlite.specs.State.{HasCleanDisk, IsRolledBack, KeepsCommit, Survives, Shows as ShowsNow}
 use Rattle.sqlite_schema.specs.declared.schema.Index.{Index}
 use Rattle.sqlite_schema.specs.declared.schema.Schema.{Schema}
 use Rattle.desk_sql.specs.declared.versions.Version.{Version}
 use Rattle.desk_sql.specs.declared.versions.Version.TheVariants.{One, Two}
-use Rattle.desk_sql.specs.Calls.{CommitsNothing, LeavesNoMore, MayRun, Quiet, ReadsIn}
+use Rattle.desk_sql.specs.Calls.{LeavesNoMore, MayRun, Quiet, ReadsIn}
 use Rattle.desk_sql.specs.Indexing.{HasExtra, MayIndex, MakesIndex}
-use Rattle.desk_sql.specs.Rows.{Tables}
+use Rattle.desk_sql.specs.Rows.{Tables, Shows}
 use Rattle.desk_sql.specs.FoundRows.{IsMeta, meta_of}
 use Rattle.desk_sql.specs.Schema.{no_schema, desk_schema, desk_with, IsSchemaOf}
 use Rattle.desk_sql.specs.Versions.{SawVersion}
@@ -27,9 +28,13 @@ use Rattle.tables.specs.declared.migrate_faults.MigrateFault.{MigrateFault}
 use Rattle.tables.specs.declared.migrate_faults.MigrateFault.TheVariants.{Store, Memory}
 use Rattle.tables.specs.Indexing.{JudgesNewest, Keeps, RefusesIndex, StandsOn, TriesNewest}
 use Rattle.tables.specs.Migrating.{IsFault}
-use Rattle.tables.proofs.OpenKept.{numbers_read, rolled_back, was_desk}
-use Rattle.tables.proofs.MigratingLemmas.{is_fault, saw_number, saw_open, saw_read}
+use Rattle.tables.proofs.OpenKept.{numbers_read, was_desk}
+use Rattle.tables.proofs.Stopping.{saw_open, saw_number}
+use Rattle.tables.proofs.Telling.{is_fault, saw_read}
 use Rattle.sql_writes.proofs.CommitLemmas.{KeepsOne, Left, Wrote, keeps_next, either_left}
+
+none_more : (n : ℕ) → 0 + n ≡ n
+none_more n = omega arith
 
 -- the desk's tables without further indexes have just the desk's schema
 exact : (schema : Schema) → IsSchemaOf Two schema → ¬ HasExtra schema → schema ≡ desk_schema
@@ -41,50 +46,72 @@ exact schema it lacks = go it.extra it.is
         let many : 7 < suc (suc (suc (suc (suc (suc (suc (suc (length more)))))))) = omega arith in
         absurd (lacks (subst HasExtra (sym is) many))
 
--- A transaction began here, in which the index was made.
-module _ {S : Type 0} (g : Ghosts S) (old late : Held S) (lacks : ¬ HasExtra old.schema)
-    (less : LeavesNoMore g (record old { in_transaction = true }) late)
-    (live : HasCleanDisk (state g late) → IsTrue (state g (record old { in_transaction = true })).in_transaction → IsTrue (state g old).is_open)
-    (made : HasCleanDisk (state g late) → MayIndex (state g (record old { in_transaction = true }))
-    → MakesIndex (state g (record old { in_transaction = true })) (state g late)) where
-  abbrev begun : Held S
-  begun = record old { in_transaction = true }
+module _ {S : Type 0} (g : Ghosts S) (old begun late : Held S) (is : begun ≡ record old { in_transaction = true }) where
+  -- a transaction that began, whatever was done in it
+  pub left_from : LeavesNoMore g begun late
+      → (HasCleanDisk (state g late) → IsTrue (state g begun).in_transaction → KeepsCommit (state g begun) (state g late))
+      → Left g (record old { in_transaction = true }) late
+  left_from less commit = subst (λ (h : Held S). Left g h late) is (record { less = less; commit = commit })
 
-  makes : HasCleanDisk (state g late) → (t : Tables) → MayRun (state g begun) t → MakesIndex (state g begun) (state g late)
-  makes clean t may = made clean (record {
-    inside = may.inside;
-    bare = λ here. exact old.schema (may.sees here).schema lacks;
-    sound = λ here. (may.sees here).sound;
-  })
+  module _ (lacks : ¬ HasExtra old.schema) where
+    bare : ¬ HasExtra begun.schema
+    bare = subst (λ (h : Held S). ¬ HasExtra h.schema) (sym is) lacks
 
-  -- it is as one that wrote no rows
-  pub wrote_index : CommitsNothing g begun late
-      → (HasCleanDisk (state g late) → IsTrue (state g begun).in_transaction → IsTrue (state g late).in_transaction)
-      → Wrote g begun late (λ _. ⊤) 0 (λ t. t)
-  wrote_index commit inside = record {
-    left = record { less = less; commit = commit };
-    live = live;
-    inside = inside;
-    made = λ clean t may fits. (let it = makes clean t may in indexed_makes (state g begun) (state g late) t it (may.sees it.was_open));
-    rowids = λ clean t may here fits n left. (
-        let none : 0 + n ≡ n = omega arith in
-        let has = subst (λ k. HasRowids k (state g begun).now.trees) none left in
-        let o = (makes clean t may).rows in
-        record {
-          few = has.few;
-          stock = rw o.1.0 (has.stock);
-          batch = rw o.1.1.0 (has.batch);
-          step = rw o.1.1.1.1.0 (has.step);
-          answer = rw o.1.1.1.1.1.1.0 (has.answer);
-          mark = rw o.1.1.1.1.1.1.1.1.0 (has.mark);
-        });
-  }
+    makes : (HasCleanDisk (state g late) → MayIndex (state g begun) → MakesIndex (state g begun) (state g late)) → HasCleanDisk (state g late)
+        → (t : Tables) → MayRun (state g begun) t → MakesIndex (state g begun) (state g late)
+    makes made clean t may = made clean (record {
+      inside = may.inside;
+      bare = λ here. exact (state g begun).now.schema (may.sees here).schema bare;
+      sound = λ here. (may.sees here).sound;
+    })
 
-  -- where the connection kept a desk, the index was made beside the desk's tables
-  pub made_index : (s : State) → KeepsIn Two (state g old) s → HasCleanDisk (state g late) → MakesIndex (state g begun) (state g late)
-  made_index s keeps clean =
-      let saw : SeesDesk (state g old) s = (keeps (omega (arith, less.clean, clean))).sees (live clean refl) in
-      makes clean saw.tables (record { inside = refl; sees = λ _. record { schema = saw.schema; rows = saw.shown; sound = saw.sound } })
+    -- a transaction in which the index was made, as one that wrote no rows
+    pub wrote_index : LeavesNoMore g begun late
+        → (HasCleanDisk (state g late) → IsTrue (state g begun).in_transaction → KeepsCommit (state g begun) (state g late))
+        → (HasCleanDisk (state g late) → IsTrue (state g begun).in_transaction → IsTrue (state g begun).is_open)
+        → (HasCleanDisk (state g late) → IsTrue (state g begun).in_transaction → IsTrue (state g late).in_transaction)
+        → (HasCleanDisk (state g late) → MayIndex (state g begun) → MakesIndex (state g begun) (state g late))
+        → Wrote g (record old { in_transaction = true }) late (λ _. ⊤) 0 (λ t. t)
+    wrote_index less commit live inside made =
+        subst (λ (h : Held S). Wrote g h late (λ _. ⊤) 0 (λ t. t)) is (record {
+          left = record { less = less; commit = commit };
+          live = live;
+          inside = inside;
+          made = λ clean t may fits. (
+              let it = makes made clean t may in indexed_makes (state g begun) (state g late) t it (may.sees it.was_open));
+          rowids = λ clean t may here fits n left. (
+              let has = subst (λ k. HasRowids k (state g begun).now.trees) (none_more n) left in
+              let o = (makes made clean t may).rows in
+              record {
+                few = has.few;
+                stock = rw o.1.0 (has.stock);
+                batch = rw o.1.1.0 (has.batch);
+                step = rw o.1.1.1.1.0 (has.step);
+                answer = rw o.1.1.1.1.1.1.0 (has.answer);
+                mark = rw o.1.1.1.1.1.1.1.1.0 (has.mark);
+              });
+        })
+
+    -- where the connection kept a desk, the index was made beside the desk's tables
+    pub made_index : (s : State) → KeepsIn Two (state g old) s → LeavesNoMore g begun late
+        → (HasCleanDisk (state g late) → IsTrue (state g begun).in_transaction → IsTrue (state g begun).is_open)
+        → (HasCleanDisk (state g late) → MayIndex (state g begun) → MakesIndex (state g begun) (state g late)) → HasCleanDisk (state g late)
+        → MakesIndex (state g begun) (state g late)
+    made_index s keeps less live made clean =
+        let inside : IsTrue (state g begun).in_transaction = subst (λ (h : Held S). IsTrue (state g h).in_transaction) (sym is) refl in
+        let at_old : HasCleanDisk (state g begun) = omega (arith, less.clean, clean) in
+        let before : HasCleanDisk (state g old) = subst (λ (h : Held S). HasCleanDisk (state g h)) is at_old in
+        let here : IsTrue (state g old).is_open = subst (λ (h : Held S). IsTrue (state g h).is_open) is (live clean inside) in
+        let saw = (keeps before).sees here in
+        let now : (state g begun).now ≡ (state g old).now = ap (λ (h : Held S). (state g h).now) is in
+        makes made clean saw.tables (record {
+          inside = inside;
+          sees = λ _. record {
+            schema = subst (λ (d : Database). IsSchemaOf Two d.schema) (sym now) saw.schema;
+            rows = subst (λ (d : Database). Shows d.trees saw.tables) (sym now) saw.shown;
+            sound = subst IsDatabase (sym now) saw.sound;
+          };
+        })
 
 module _ {S : Type 0} (g : Ghosts S) (old late end : Held S) (s : State) (keeps : KeepsIn Two (state g old) s) where
   -- a transaction that was rolled back leaves the desk that the connection saw
@@ -109,10 +136,14 @@ module _ {S : Type 0} (g : Ghosts S) (old late end : Held S) (s : State) (keeps 
     keeps_uncommitted survives e failed clean =
         let at_late : HasCleanDisk (state g late) = omega (arith, survives.clean, clean) in
         record {
-          sees = sees_back wrote.left at_late (rolled_back (state g late) (state g end) e (wrote.inside at_late refl) (failed clean));
+          sees = sees_back wrote.left at_late (back_of (wrote.inside at_late refl) (failed clean));
           leaves = λ db may. elim (either_left g old late (λ _. ⊤) 0 (λ t. t) s s wrote (λ t st. tt) (λ t st. st) keeps at_late db
               (survives.crash clean db may)) [ inl same ↦ same | inr same ↦ same ];
         }
+      where
+        back_of : IsTrue (state g late).in_transaction → FailsToCommit (state g late) (state g end) e → IsRolledBack (state g late) (state g end)
+        back_of inside (inl fails) = fails.3
+        back_of inside (inr over) = absurd (let no : true ≡ false = sym inside ∙ over.1 in cc)
 
 -- What the reading says.
 
@@ -123,7 +154,8 @@ module _ {S : Type 0} (g : Ghosts S) (old new : Held S) where
   judges_newest meta (Ok m) filled quiet found is = record {
     version = subst (SawVersion g old new) (ap (λ (n : Meta). n.version) (sym is.0) ∙ is.1) (saw_read g old new meta found);
     filled = filled;
-    numbers = λ clean s stood. ap meta_of is.0 ∙ numbers_read g old new meta quiet found clean filled Two s stood;
+    numbers = λ clean s stood. ap meta_of is.0 ∙ numbers_read (state g old) (state g new) meta (λ v t sees. found v clean t sees) Two s
+        (stood (quiet_clean g old new quiet clean)) filled;
   }
   judges_newest meta (Err why) filled quiet found refused = rw refused.0 (refused.1, inr (saw_read g old new meta found))
 

@@ -1,85 +1,39 @@
--- What a connection keeps after a quiet call, when it is let go, and after an opening, and what a failed opening leaves.
-use Rattle.std.proofs.Common.{IsTrue, rules, arith, inl, None, ◌≡◌, ◌⊎◌, inr, ◌↔◌, ℕ, Bool, true, false, [], ◌∷◌, length, Some, Ok, refl, sym, ap, subst, ◌∙◌}
+-- What a connection keeps after an opening, and what a failed opening leaves. For found_tables and read_version.
+use Rattle.std.proofs.Common.{◌≡◌, ◌⊎◌, inl, inr, ◌↔◌, ℕ, Bool, true, false, [], ◌∷◌, length, IsTrue, Some, Ok, refl, sym, ap, subst, ◌∙◌, rules, arith}
 use Rattle.sqlite.specs.Store.{Ghosts}
-use Rattle.sqlite.specs.Held.{Held, state}
-use Rattle.sqlite.specs.State.{HasCleanDisk, State as Connected, IsRolledBack, KeepsCommit, Shows as ShowsNow}
-use Rattle.desk_sql.specs.declared.versions.Version.{Version}
-use Rattle.desk_sql.specs.Calls.{Quiet, ReadsIn, Sees, Founds, WasOpen, LeavesNoMore, Idle}
-use Rattle.ledger.specs.Answer.{State, start}
-use Rattle.sql_model.specs.Keeping.{SeesNew, Sees as SeesFound, MeansIn}
-use Rattle.sql_model.proofs.KeepLemmas.{same_desk, is_database}
-use Rattle.sql_model.proofs.Quieting.{quiet_clean, quiet_keeps, quiet_leaves, quiet_sees}
-use Rattle.desk_sql.specs.declared.versions.Version.TheVariants.{One, Two}
 use Rattle.sqlite.specs.Tree.{Trees}
+use Rattle.sqlite.specs.Effect.{Database, IsDatabase}
 use Rattle.sqlite_schema.specs.declared.schema.Schema.{Schema}
+use Rattle.sqlite.specs.Held.{Held, state}
 use Rattle.sqlite.specs.Steps.{FailsToCommit}
 use Rattle.sqlite.specs.declared.error.Error.{Error}
+use Rattle.sqlite.specs.State.{State as Connected, HasCleanDisk, IsUnchanged, IsRolledBack, KeepsCommit, Shows as ShowsNow}
+use Rattle.desk_sql.specs.declared.versions.Version.{Version}
+use Rattle.desk_sql.specs.declared.versions.Version.TheVariants.{One, Two}
 use Rattle.desk_sql.specs.Versions.{number_of}
+use Rattle.desk_sql.specs.Calls.{Sees, MaySeeIn, Founds, WasOpen, LeavesNoMore, Quiet}
 use Rattle.desk_sql.specs.Changes.{founded}
 use Rattle.desk_sql.specs.FoundRows.{IsMeta, meta_of}
-use Rattle.desk_sql.specs.Rows.{MetaRow}
+use Rattle.desk_sql.specs.Rows.{Tables, MetaRow, ShowsIn}
 use Rattle.desk_sql.specs.Schema.{no_schema, IsSchemaOf}
 use Rattle.desk_sql.specs.declared.meta.Meta.{Meta}
 use Rattle.commands.specs.declared.replies.Fault.{Fault}
 use Rattle.commands.specs.declared.replies.Fault.TheVariants as fault
+use Rattle.ledger.specs.Answer.{State, start}
 use Rattle.sql_model.specs.ExpectedRows.{meta_in}
+use Rattle.sql_model.specs.Keeping.{Sees as SeesFound, SeesNew}
 use Rattle.sql_model.specs.Standing.{StandsFor}
 use Rattle.sql_model.proofs.Founding.{founded_stands}
-use Rattle.sql_writes.proofs.CommitLemmas.{KeepsOne}
-use Rattle.tables.specs.Migrating.{IsAsBefore}
-use Rattle.tables.specs.Keeping.{SeesOf, IsKeptIn, IsFound, MeansOf, IsKept, StoodFor}
-use Rattle.tables.specs.Making.{GivesBack, LetsGo}
-use Rattle.tables.specs.declared.books.TableBook.{TableBook}
-use Rattle.tables.specs.declared.opening.Opened.{Opened}
+use Rattle.sql_model.proofs.KeepLemmas.{is_database}
+use Rattle.sql_model.proofs.Quieting.{quiet_clean}
 use Rattle.tables.specs.declared.faults.OpenFault.{OpenFault}
 use Rattle.tables.specs.declared.faults.OpenFault.TheVariants.{Store, Memory}
+use Rattle.sql_model.specs.Keeping.{MeansIn}
+use Rattle.tables.specs.Keeping.{MeansOf, SeesOf, IsKept, IsKeptIn, IsFound}
+use Rattle.desk_sql.specs.Calls.{Idle}
 use Rattle.tables.specs.Opening.{FailsOpening, FailsToOpen, Tells}
-
--- A connection that is not shut is open.
-pub open_unless_shut : (b : Bool) → ((IsTrue b → ⊥) → ⊥) → IsTrue b
-open_unless_shut true not_shut = refl
-open_unless_shut false not_shut = absurd (not_shut (λ (live : IsTrue false). let no : false ≡ true = live in cc))
-
--- A quiet call leaves the state that the connection represented.
-
-module _ {S : Type 0} (g : Ghosts S) (old new : Held S) (it : Quiet g old new) where
-  module _ (s : State) (clean : HasCleanDisk (state g new)) (live : IsTrue (state g new).is_open) where
-    -- what it saw was committed, so it sees the same
-    desk_again : {v : Version} → SeesOf v (state g old) s → SeesOf v (state g new) s
-    desk_again saw = search (rules, arith, same_desk, quiet_sees)
-
-    new_again : SeesNew (state g old) s → SeesNew (state g new) s
-    new_again saw = search (rules, arith, quiet_sees)
-
-    sees_again : (v : Version) → SeesFound v (state g old) s → SeesFound v (state g new) s
-    sees_again v saw = search (rules, arith, desk_again, new_again)
-
-  pub as_before : IsAsBefore g old new
-  as_before = search (rules, arith, quiet_clean, sees_again, quiet_sees, quiet_leaves)
-
--- The state that a connection represents when it is let go: its limit of steps does not count.
-
-module _ {S : Type 0} (g : Ghosts S) (h : Held S) where
-  -- the connection without its limit
-  abbrev pub unlimited : Held S
-  unlimited = record h { step_limit = None }
-
-  still_seen : (v : Version) (s : State) → SeesOf v (state g h) s → SeesOf v (state g unlimited) s
-  still_seen v s saw = search (rules, arith)
-
-  -- the state that is kept is found
-  kept_found : (v : Version) (s : State) → IsKeptIn v (state g h) s → IsFound v (state g unlimited) s
-  kept_found One s kept = record { sees = λ live. still_seen One s (kept.sees live); leaves = kept.leaves }
-  kept_found Two s kept = record { sees = λ live. inl (still_seen Two s (kept.sees live)); leaves = kept.leaves }
-
--- so it is with the connection of a book, and with that of what was opened
-pub lets_go : {S : Type 0} (g : Ghosts S) (b : TableBook S g) → LetsGo g b (unlimited g b.conn)
-lets_go g b = search (rules, arith, kept_found)
-
-pub gives_back : {S : Type 0} (g : Ghosts S) (o : Opened S) → GivesBack g o (unlimited g o.conn)
-gives_back g o = search (rules, arith, kept_found)
-
--- What a connection keeps after an opening.
+use Rattle.tables.proofs.Quiet.{as_before}
+use Rattle.sql_writes.proofs.CommitLemmas.{KeepsOne}
 
 -- the schema of the desk has tables, in each version
 pub not_bare : (v : Version) (schema : Schema) → IsSchemaOf v schema → schema ≡ no_schema → ⊥
@@ -121,7 +75,8 @@ gone_back a mid b kept back live = search (rules, arith)
 
 -- a commit that fails in a transaction is rolled back
 pub rolled_back : (late end : Connected) (e : Error) → IsTrue late.in_transaction → FailsToCommit late end e → IsRolledBack late end
-rolled_back late end e inside failed = search (rules, arith)
+rolled_back late end e inside (inl fails) = fails.3
+rolled_back late end e inside (inr over) = absurd (let no : true ≡ false = sym inside ∙ over.1 in cc)
 
 pub still_bare : (v : Version) (a b : Connected) (s : State) → IsFound v a s → a.now.schema ≡ no_schema
     → HasGoneBack a b → SeesFound v b s
@@ -181,36 +136,56 @@ fails_quietly g old new it was filled f told store = record {
   sound = quiet_clean g old new it;
 }
 
--- A quiet call read the numbers of tables that the connection represented a state in.
-module _ {S : Type 0} (g : Ghosts S) (old new : Held S) (m : Meta) (quiet : Quiet g old new)
-    (found : (v : Version) → ReadsIn g old new v (Ok m) IsMeta) (clean : HasCleanDisk (state g new)) (filled : old.schema ≡ no_schema → ⊥)
-    (v : Version) (s : State) (stood : StoodFor v (state g old) s) where
+module _ (old new : Connected) (m : Meta) (seen : (v : Version) (t : Tables) → MaySeeIn v old t → IsUnchanged old new × IsMeta t m) where
   -- if a version was read, the connection was open
-  was_open : IsTrue (state g old).is_open
-  was_open = open_unless_shut (state g old).is_open (λ shut. shut (found Two clean founded (λ here. absurd (shut here))).0.0.was_open)
+  was_open : IsTrue old.is_open
+  was_open = go old.is_open refl
+    where
+      go : (b : Bool) → old.is_open ≡ b → IsTrue old.is_open
+      go true e = e
+      go false e = (seen Two founded (λ here. absurd (let never : true ≡ false = sym here ∙ e in cc))).0.0.was_open
 
-  kept : IsFound v (state g old) s
-  kept = stood (quiet_clean g old new quiet clean)
+  module _ (v : Version) (s : State) (found : IsFound v old s) (filled : old.now.schema ≡ no_schema → ⊥) where
+    -- the desk that was there
+    desk : SeesOf v old s
+    desk = was_desk v old s found filled was_open
 
-  -- the desk that was there
-  desk : SeesOf v (state g old) s
-  desk = was_desk v (state g old) s kept filled was_open
+    -- what was read of it
+    read : IsUnchanged old new × IsMeta desk.tables m
+    read = seen v desk.tables (λ _. record { schema = desk.schema; rows = desk.shown; sound = desk.sound })
 
-  -- the numbers that were read are those of its state, and of its version
-  pub numbers_read : meta_of m ≡ meta_in v s.ledger
-  numbers_read =
-      let read = found v clean desk.tables (λ _. record { schema = desk.schema; rows = desk.shown; sound = desk.sound }) in
-      let same : meta_of m ∷ [] ≡ meta_in v s.ledger ∷ [] = sym read.1 ∙ desk.stands.meta in cc
+    -- the numbers that were read are those of its state, and of its version
+    pub numbers_read : meta_of m ≡ meta_in v s.ledger
+    numbers_read = let same : meta_of m ∷ [] ≡ meta_in v s.ledger ∷ [] = sym read.1 ∙ desk.stands.meta in cc
 
-  pub has_number : m.version ≡ number_of v
-  has_number = ap (λ (r : MetaRow). r.version) numbers_read
+    pub has_number : m.version ≡ number_of v
+    has_number = ap (λ (r : MetaRow). r.version) numbers_read
 
-  -- the version whose number was read is that of the tables
-  pub is_named : (now : Version) → ((w : Version) → Some now ≡ Some w ↔ m.version ≡ number_of w) → v ≡ now
-  is_named now named = let both : Some now ≡ Some v = (named v).1 has_number in cc
+    -- a connection that was read keeps the state that it represented
+    keeps_read : ((db : Trees) → new.may_leave db → old.may_leave db) → IsKeptIn v new s
+    keeps_read less =
+        let is = read.0.0 in
+        record {
+          sees = λ _. record {
+            schema = subst (λ (d : Database). IsSchemaOf v d.schema) (sym is.now_is) desk.schema;
+            sound = subst IsDatabase (sym is.now_is) desk.sound;
+            committed = is.now_is ∙ desk.committed ∙ sym is.committed_is;
+            tables = desk.tables;
+            shown = subst (λ (d : Database). ShowsIn v d.trees desk.tables) (sym is.now_is) desk.shown;
+            stands = desk.stands;
+          };
+          leaves = λ db may. found.leaves db (less db may);
+        }
 
-  -- the connection keeps the state in tables of that version
-  pub keeps_named : (now : Version) → ((w : Version) → Some now ≡ Some w ↔ m.version ≡ number_of w) → IsKeptIn now (state g new) s
-  keeps_named now named =
-      subst (λ w. IsKeptIn w (state g new) s) (is_named now named)
-      (quiet_keeps g old new quiet v s (λ _. record { sees = λ _. desk; leaves = kept.leaves }) clean)
+    -- the version whose number was read is that of the tables
+    pub is_named : (now : Version) → ((w : Version) → Some now ≡ Some w ↔ m.version ≡ number_of w) → v ≡ now
+    is_named now named =
+        let both : Some now ≡ Some v = (named v).1 has_number in
+        let same : now ≡ v = cc in
+        sym same
+
+    -- the connection keeps the state in tables of that version
+    pub keeps_named : (now : Version) → ((w : Version) → Some now ≡ Some w ↔ m.version ≡ number_of w)
+        → ((db : Trees) → new.may_leave db → old.may_leave db) → IsKeptIn now new s
+    keeps_named now named less =
+        subst (λ w. IsKeptIn w new s) (is_named now named) (keeps_read less)

@@ -1,16 +1,16 @@
 -- What each call leaves of a book that may act, as the contract of every book says it. For the book over tables.
-use Rattle.std.proofs.Common.{◌≡◌, ◌⊎◌, ◌∙◌, ◌+◌, ◌∷◌, inl, inr, true, false, refl, sym, arith, rules, ◌↔◌, Option, Result, Ok, Err, IfErr, IsErrOf, IsTrue, ℕ}
+use Rattle.std.proofs.Common.{◌≡◌, ◌≤◌, ◌⊎◌, ◌∙◌, ◌+◌, ◌∷◌, inl, inr, true, false, refl, sym, arith, rules, ◌↔◌, Option, Result, Ok, Err, IfErr, IsErrOf, IsTrue, ℕ}
 use Rattle.std.specs.Borrow.{Bor}
 use Rattle.std.specs.Option.{option_copied}
 use Rattle.sqlite.specs.Store.{Ghosts}
-use Rattle.sqlite.specs.Held.{state}
+use Rattle.sqlite.specs.Held.{Held, state}
 use Rattle.sqlite.specs.State.{HasCleanDisk}
 use Rattle.commands.specs.Asks.{Asked}
 use Rattle.commands.specs.Request.{Request}
 use Rattle.commands.specs.declared.replies.Fault.{Fault}
 use Rattle.commands.specs.declared.replies.Fault.TheVariants.{Memory, Store}
 use Rattle.commands.specs.declared.replies.Reply.{Reply}
-use Rattle.desk_sql.specs.Causes.{HasFaulted}
+use Rattle.desk_sql.specs.Causes.{HasFaulted, IsUp}
 use Rattle.desk_sql.proofs.Rowids.{rowids_fewer}
 use Rattle.ledger.specs.Answer.{State, outcome}
 use Rattle.saga_core.specs.Books.{Keeps, LeavesNoMore}
@@ -19,7 +19,7 @@ use Rattle.saga_core.specs.Runs.{Asks}
 use Rattle.sql_commands.specs.Failing.{RanOutOf, asked_rowids}
 use Rattle.sql_model.specs.Keeping.{WasClean}
 use Rattle.sql_model.specs.Spelling.{IsSpelled}
-use Rattle.sql_model.specs.Staying.{StaysUp, sees_alone}
+use Rattle.sql_model.specs.Staying.{SeesAsBefore, StaysUp, sees_alone}
 use Rattle.sql_model.proofs.Quieting.{quiet_clean, quiet_leaves, quiet_sees, quiet_up}
 use Rattle.sql_model.proofs.Staying.{faulted_earlier, faulted_later, rowids_stay}
 use Rattle.sql_reads.specs.GoodRows.{IsMemory}
@@ -29,37 +29,33 @@ use Rattle.tables.specs.BookTerms.{Answers, FailsToAct, KeepsAtMemory, LeavesAtS
 use Rattle.tables.specs.Reading.{Executes, Looks, Reads}
 use Rattle.tables.specs.declared.books.TableBook.{TableBook}
 
--- A book that might act, or had a reason, since the first one.
-module _ {S : Type 0} (g : Ghosts S) (first old new : TableBook S g) (stays : StaysUp g old.conn new.conn) (s : State) (asks : Asks)
-    (since : MayActSince g first old s asks) where
-  -- it may act on for later asks, or the disk failed or refused
-  goes_since : (t : State) (later : Asks) → (AreShort asks → AreShort later)
-      → (MayAct g old s (rowids_for asks) → MayAct g new t (rowids_for later) ⊎ HasFaulted (state g old.conn) (state g new.conn))
-      → MayActSince g first new t later
-  goes_since t later short goes = record {
-    counts = omega (arith, since.counts, stays.counts);
-    may = elim since.may [
-      | inr faulted ↦ inr (faulted_earlier (state g first.conn) (state g old.conn) (state g new.conn) faulted stays.counts)
-      | inl may ↦ elim (goes may.0) [
-        | inl on ↦ inl (on, short may.1)
-        | inr faulted ↦ inr (faulted_later (state g first.conn) (state g old.conn) (state g new.conn) since.counts faulted)
-      ]
-    ];
-  }
+module _ {S : Type 0} (g : Ghosts S) (first old new : TableBook S g) (stays : StaysUp g old.conn new.conn)
+    (low : (state g first.conn).faults ≤ (state g old.conn).faults) where
+  -- a fault before the call, or meanwhile, is one since the first book
+  since_earlier : HasFaulted (state g first.conn) (state g old.conn) → HasFaulted (state g first.conn) (state g new.conn)
+  since_earlier faulted = faulted_earlier (state g first.conn) (state g old.conn) (state g new.conn) faulted stays.counts
 
-  -- it failed for a reason
-  fails_since : (next : State)
-      → (MayAct g old s (rowids_for asks) → AreShort asks → HasFaulted (state g old.conn) (state g new.conn) ⊎ RanOutOf g new.conn s next)
-      → HasReasonSince g first new s next
-  fails_since next fails = elim since.may [
-    | inr faulted ↦ inl (faulted_earlier (state g first.conn) (state g old.conn) (state g new.conn) faulted stays.counts)
-    | inl may ↦ elim (fails may.0 may.1) [
-      | inl faulted ↦ inl (faulted_later (state g first.conn) (state g old.conn) (state g new.conn) since.counts faulted)
-      | inr ran ↦ inr ran
-    ]
-  ]
+  since_later : HasFaulted (state g old.conn) (state g new.conn) → HasFaulted (state g first.conn) (state g new.conn)
+  since_later faulted = faulted_later (state g first.conn) (state g old.conn) (state g new.conn) low faulted
+
+  -- after a fault it does not matter what the book may do
+  faulted_since : (s : State) (asks : Asks) → HasFaulted (state g first.conn) (state g old.conn) → MayActSince g first new s asks
+  faulted_since s asks faulted = record { counts = omega (arith, low, stays.counts); may = inr (since_earlier faulted) }
+
+  -- the book may act on, or the disk failed or refused
+  acts_on : (s : State) (asks : Asks) → AreShort asks
+      → MayAct g new s (rowids_for asks) ⊎ HasFaulted (state g old.conn) (state g new.conn) → MayActSince g first new s asks
+  acts_on s asks short (inl may) = record { counts = omega (arith, low, stays.counts); may = inl (may, short) }
+  acts_on s asks short (inr faulted) = record { counts = omega (arith, low, stays.counts); may = inr (since_later faulted) }
 
 -- A read.
+
+module _ {S : Type 0} (g : Ghosts S) (old new : TableBook S g) (stays : StaysUp g old.conn new.conn) (clean : HasCleanDisk (state g new.conn))
+    (first : TableBook S g) (s : State) (asks : Asks) (since : MayActSince g first old s asks) where
+  -- it leaves the state, and the rowids
+  may_still : SeesAsBefore g old.conn new.conn → WasClean g old.conn new.conn → (StandsBook g old s → StandsBook g new s)
+      → MayActSince g first new s asks
+  may_still sees less same = search (rules, arith, faulted_since, acts_on, rowids_stay)
 
 -- unless the store failed, what stood stands, and what may go on does
 kept_answered : {V : Type 0} (stood stands : State → Type 0) (result : Result V Fault) → IfErr result IsMemory → Keeps stood stands result
@@ -73,6 +69,17 @@ goes_on : {V : Type 0} (can : State → Asks → Type 0) (why : State → State 
 goes_on can why s asks (Ok v) answered may = may
 goes_on can why s asks (Err Memory) answered may = may
 goes_on can why s asks (Err Store) answered may = absurd (answered refl)
+
+-- it failed, for a reason
+failed_since : {S : Type 0} (g : Ghosts S) (first old : TableBook S g) (conn : Held S) → StaysUp g old.conn conn → (s : State) (asks : Asks)
+    → MayActSince g first old s asks
+    → (StandsBook g old s → IsSpelled s.ledger → IsUp (state g old.conn) → HasFaulted (state g old.conn) (state g conn))
+    → HasFaulted (state g first.conn) (state g conn) ⊎ RanOutOf g conn s s
+failed_since g first old conn stays s asks since fails = elim since.may [
+  | inr faulted ↦ inl (faulted_earlier (state g first.conn) (state g old.conn) (state g conn) faulted stays.counts)
+  | inl may ↦
+      inl (faulted_later (state g first.conn) (state g old.conn) (state g conn) since.counts (fails may.0.stands may.0.spelled may.0.up))
+]
 
 -- a book that has failed did so for a reason
 had_failed : {S : Type 0} (g : Ghosts S) (b first : TableBook S g) (s next : State) (asks : Asks) → b.failed ≡ true
@@ -90,20 +97,6 @@ module _ {S V : Type 0} (g : Ghosts S) (old new : TableBook S g) {IsShown : Stat
   leaves_quiet s t left after db may =
       left (quiet_clean g old.conn new.conn look.quiet after) db (quiet_leaves g old.conn new.conn look.quiet after db may)
 
-  -- it leaves the state, and the rowids
-  may_still : HasCleanDisk (state g new.conn) → (s : State) (m : ℕ) → IfErr looked IsMemory → MayAct g old s m
-      → MayAct g new s m ⊎ HasFaulted (state g old.conn) (state g new.conn)
-  may_still clean s m memory may = elim ((quiet_up g old.conn new.conn look.quiet).up clean may.up) [
-    | inr faulted ↦ inr faulted
-    | inl up ↦ inl (record {
-      stands = kept_answered (StandsBook g old) (StandsBook g new) looked memory (look.same clean) s may.stands;
-      spelled = may.spelled;
-      up = up;
-      rowids = rowids_stay g old.conn new.conn (quiet_sees g old.conn new.conn look.quiet) (quiet_clean g old.conn new.conn look.quiet) s
-          may.stands.keeps clean up.is_open m may.rowids;
-    })
-  ]
-
   -- it answered, or ran out of memory
   pub read_on : old.failed ≡ false → IfErr looked IsMemory → Reads g old new looked IsShown
   read_on worked memory =
@@ -117,7 +110,8 @@ module _ {S V : Type 0} (g : Ghosts S) (old new : TableBook S g) {IsShown : Stat
           stays_failed = λ failed. absurd (let both : true ≡ false = sym failed ∙ worked in cc);
           stays_left = λ failed. leaves_quiet;
           may_act = λ clean first s asks since. goes_on (MayActSince g first new) (HasReasonSince g first new) s asks looked (not_store looked memory)
-              (goes_since g first old new (quiet_up g old.conn new.conn look.quiet) s asks since s asks (λ it. it) (may_still clean s _ memory));
+              (may_still g old new (quiet_up g old.conn new.conn look.quiet) clean first s asks since (quiet_sees g old.conn new.conn look.quiet)
+              (quiet_clean g old.conn new.conn look.quiet) (kept_answered (StandsBook g old) (StandsBook g new) looked memory (look.same clean) s));
           sound = quiet_clean g old.conn new.conn look.quiet;
         };
         sound = quiet_clean g old.conn new.conn look.quiet;
@@ -136,8 +130,8 @@ module _ {S V : Type 0} (g : Ghosts S) (old new : TableBook S g) {IsShown : Stat
       fails = (λ _. refl, λ _. refl);
       stays_failed = λ _. refl;
       stays_left = λ _. leaves_quiet;
-      may_act = λ clean first s asks since. fails_since g first old new (quiet_up g old.conn new.conn look.quiet) s asks since s
-          (λ may short. inl (look.store clean s may.stands may.spelled may.up is));
+      may_act = λ clean first s asks since. failed_since g first old new.conn (quiet_up g old.conn new.conn look.quiet) s asks since
+          (λ here spelled up. look.store clean s here spelled up is);
       sound = quiet_clean g old.conn new.conn look.quiet;
     };
     sound = quiet_clean g old.conn new.conn look.quiet;
@@ -164,39 +158,56 @@ not_read g b failed = record {
   sees = sees_alone g b.conn;
 }
 
+-- A command.
+
+module _ {S : Type 0} (g : Ghosts S) (old new : TableBook S g) (ask : Option (Bor Asked)) (asked : Request) where
+  -- a book that represents a state whose agents have their form may act there, unless the disk failed or refused
+  may_act : HasCleanDisk (state g new.conn) → StaysUp g old.conn new.conn → LeavesRowids g old new ask asked
+      → (s t : State) (m : ℕ) → MayAct g old s (asked_rowids (option_copied ask) asked + m) → StandsBook g new t → IsSpelled t.ledger
+      → MayAct g new t m ⊎ HasFaulted (state g old.conn) (state g new.conn)
+  may_act clean stays leaves s t m may stands spelled = elim (stays.up clean may.up) [
+    | inr faulted ↦ inr faulted
+    | inl up ↦ (elim (leaves clean s may.stands m may.rowids may.up) [
+      | inr faulted ↦ inr faulted
+      | inl has ↦ inl (record { stands = stands; spelled = spelled; up = up; rowids = has })
+    ])
+  ]
+
+module _ {S : Type 0} (g : Ghosts S) (old new : TableBook S g) (stays : StaysUp g old.conn new.conn) where
+  acts_since : (ask : Option (Bor Asked)) (asked : Request) (result : Result Reply Fault) → ActsOn g old new ask asked result
+      → FailsToAct g old new ask asked result → ActsSince g old new ask asked result
+  acts_since ask asked (Ok r) acts fails clean first s later since = elim since.may [
+    | inr faulted ↦ faulted_since g first old new stays since.counts (outcome s (option_copied ask) asked).state later faulted
+    | inl may ↦
+        acts_on g first old new stays since.counts (outcome s (option_copied ask) asked).state later may.1.1
+        (acts clean s (rowids_for later) may.0)
+  ]
+  acts_since ask asked (Err Memory) acts fails clean first s later since = elim since.may [
+    | inr faulted ↦ faulted_since g first old new stays since.counts s later faulted
+    | inl may ↦ acts_on g first old new stays since.counts s later may.1.1 (acts clean s (rowids_for later) may.0)
+  ]
+  acts_since ask asked (Err Store) acts fails clean first s later since = elim since.may [
+    | inr faulted ↦ inl (since_earlier g first old new stays since.counts faulted)
+    | inl may ↦ (let n = asked_rowids (option_copied ask) asked in
+        let has = rowids_fewer n (n + rowids_for later) (state g old.conn).now.trees (omega arith) may.0.rowids in
+        elim (fails clean s may.0.stands may.0.spelled may.1.0 has may.0.up refl) [
+          | inl faulted ↦ inl (since_later g first old new stays since.counts faulted)
+          | inr ran ↦ inr ran
+        ])
+  ]
+
 -- A command that reached the store, from what it left of the connection.
 module _ {S : Type 0} (g : Ghosts S) (old new : TableBook S g) (ask : Option (Bor Asked)) (asked : Request) (less : WasClean g old.conn new.conn)
     (stays : StaysUp g old.conn new.conn) (rowids : LeavesRowids g old new ask asked)
     (spells : (s : State) → IsSpelled s.ledger → IsSpelled (outcome s (option_copied ask) asked).state.ledger) where
-  -- a book that represents a state whose agents have their form may act there, unless the disk failed or refused
-  may_act : HasCleanDisk (state g new.conn) → (s t : State) (m : ℕ) → MayAct g old s (asked_rowids (option_copied ask) asked + m)
-      → StandsBook g new t → IsSpelled t.ledger → MayAct g new t m ⊎ HasFaulted (state g old.conn) (state g new.conn)
-  may_act clean s t m may stands spelled = elim (stays.up clean may.up) [
-    | inr faulted ↦ inr faulted
-    | inl up ↦ elim (rowids clean s may.stands m may.rowids may.up) [
-      | inr faulted ↦ inr faulted
-      | inl has ↦ inl (record { stands = stands; spelled = spelled; up = up; rowids = has })
-    ]
-  ]
-
-  -- after a success that is the next state, and out of memory the same one
+  -- after a success the book may act on the next state, and out of memory on the same one
   acts_by : (result : Result Reply Fault) → MovesOn g old new ask asked result → KeepsAtMemory g old new result → ActsOn g old new ask asked result
   acts_by (Ok r) after memory clean s m may =
-      may_act clean s (outcome s (option_copied ask) asked).state m may (after clean s may.stands) (spells s may.spelled)
-  acts_by (Err Memory) after memory clean s m may = may_act clean s s m may (memory clean s may.stands) may.spelled
+      may_act g old new ask asked clean stays rowids s (outcome s (option_copied ask) asked).state m may (after clean s may.stands)
+      (spells s may.spelled)
+  acts_by (Err Memory) after memory clean s m may =
+      may_act g old new ask asked clean stays rowids s s m may (memory clean s may.stands) may.spelled
   acts_by (Err Store) after memory clean s m may = inl tt
-
-  acts_since : (result : Result Reply Fault) → ActsOn g old new ask asked result → FailsToAct g old new ask asked result
-      → ActsSince g old new ask asked result
-  acts_since (Ok r) acts fails clean first s later since =
-      goes_since g first old new stays s _ since (outcome s (option_copied ask) asked).state later (λ it. it.1) (acts clean s (rowids_for later))
-  acts_since (Err Memory) acts fails clean first s later since =
-      goes_since g first old new stays s _ since s later (λ it. it.1) (acts clean s (rowids_for later))
-  acts_since (Err Store) acts fails clean first s later since =
-      fails_since g first old new stays s _ since (outcome s (option_copied ask) asked).state (λ may short.
-      let n = asked_rowids (option_copied ask) asked in
-      let has = rowids_fewer n (n + rowids_for later) (state g old.conn).now.trees (omega arith) may.rowids in
-      fails clean s may.stands may.spelled short.0 has may.up refl)
 
   pub executed : (result : Result Reply Fault) → old.failed ≡ false → Answers g old new ask asked result → MovesOn g old new ask asked result
       → KeepsAtMemory g old new result → LeavesAtStore g old new ask asked result → (IsErrOf result Store ↔ IsTrue new.failed)
@@ -212,7 +223,7 @@ module _ {S : Type 0} (g : Ghosts S) (old new : TableBook S g) (ask : Option (Bo
           fails = fails;
           stays_failed = λ failed. absurd (let both : true ≡ false = sym failed ∙ working in cc);
           stays_left = λ failed. absurd (let both : true ≡ false = sym failed ∙ working in cc);
-          may_act = acts_since result acts reason;
+          may_act = acts_since g old new stays ask asked result acts reason;
           sound = less;
         };
         sound = less;

@@ -1,7 +1,7 @@
 -- A text that ends with none of the three letters ends with no letter of a cause.
 use Rattle.std.proofs.Common.{arith}
 use Rattle.std.proofs.lemmas.Str.Pattern.{strip_suffix_char}
-use Rattle.commands.proofs.WordLemmas.{no_cause}
+use Rattle.commands.proofs.ItemLemmas.{no_cause}
 use Rattle.commands.proofs.readings.cause_in.Goals as goal
 
 -- none of the three letters stands at the end

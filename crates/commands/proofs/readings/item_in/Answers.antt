@@ -1,7 +1,7 @@
 -- The first letter decides which item the text can be of.
 use Rattle.std.proofs.Common.{arith}
 use Rattle.std.proofs.lemmas.Str.Pattern.{strip_prefix_char}
-use Rattle.commands.proofs.WordLemmas.{no_transaction, no_compensation, no_turn, no_letter}
+use Rattle.commands.proofs.ItemLemmas.{no_transaction, no_compensation, no_turn, no_letter}
 use Rattle.commands.proofs.readings.item_in.Goals as goal
 
 -- the text after a T is no step and option

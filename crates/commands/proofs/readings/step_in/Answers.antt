@@ -1,7 +1,8 @@
 -- The text of a step and its option is cut at its first dot. So a text without a dot, or with a part that is no such
 -- number, is the text of none.
 use Rattle.commands.proofs.readings.step_in.Goals as goal
-use Rattle.std.proofs.Common.{arith, ◌≡◌, ℕ, List, decimal, Option, MatchOption, IsTrue, Bor}
+use Rattle.std.specs.Borrow.{Bor}
+use Rattle.std.proofs.Common.{arith, ◌≡◌, ℕ, List, decimal, Option, MatchOption, IsTrue}
 use Rattle.std.proofs.lemmas.Bool.{and_parts}
 use Rattle.std.proofs.lemmas.Str.Pattern.{IsSplitOnceResult, split_after}
 use Rattle.allotment.specs.Limits.{is_between}

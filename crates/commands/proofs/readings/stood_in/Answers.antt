@@ -1,6 +1,6 @@
 -- Words whose last two are no state are of no reply.
 use Rattle.std.proofs.Common.{arith}
-use Rattle.commands.proofs.WordLemmas.{no_state}
+use Rattle.commands.proofs.ReplyLemmas.{no_state}
 use Rattle.commands.proofs.readings.stood_in.Goals as goal
 
 -- the last two words are no state

@@ -1,5 +1,5 @@
 -- A view changes nothing, and executes no command.
-use Rattle.desk_http.proofs.ReasonLemmas.{view_obeys}
+use Rattle.desk_http.proofs.AnswerLemmas.{view_obeys}
 use Rattle.desk_http.proofs.answering.meet.Goals as goal
 
 pub returns-in-SeeJourney-clause-meets : goal.returns-in-SeeJourney-clause-meets

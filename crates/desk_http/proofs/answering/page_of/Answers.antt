@@ -1,15 +1,16 @@
 -- A denied request changes nothing, and any other one gets the outcome of its demand.
-use Rattle.std.proofs.Common.{◌∙◌, sym}
+use Rattle.std.proofs.Common.{◌∙◌, sym, subst, Err}
 use Rattle.desk_http.specs.Demands.{demand_of}
-use Rattle.desk_http.specs.DemandValues.{demand_said}
-use Rattle.desk_http.proofs.ReasonLemmas.{denied_tells, met_tells}
-use Rattle.desk_http.proofs.RequestLemmas.{denied_asks_nothing, metrics_asked}
+use Rattle.desk_http.specs.DemandValues.{Demands, demand_said}
+use Rattle.desk_http.proofs.AnswerLemmas.{denied_tells, met_tells}
+use Rattle.desk_http.proofs.DemandLemmas.{denied_asks_nothing, metrics_asked}
 use Rattle.desk_http.proofs.answering.page_of.Goals as goal
 
 pub returns-in_ok-denied_page-in-Err-Refused-clause-tells : goal.returns-in_ok-denied_page-in-Err-Refused-clause-tells
 returns-in_ok-denied_page-in-Err-Refused-clause-tells g c = λ parts body is at.
     denied_tells c.args.door parts body c.in-Err-Refused.denied _ (sym at ∙ c.in_default.is)
-    (rw c.in-Err-Refused.field-0-is at (c.in-Err-Refused.ensures.demand parts body is)) c.in_ok-denied_page-in-Err-Refused.ensures.page
+    (subst (λ unmet. Demands (demand_of c.args.door parts body) (Err unmet)) c.in-Err-Refused.field-0-is (c.in-Err-Refused.ensures.demand parts body is))
+    c.in_ok-denied_page-in-Err-Refused.ensures.page
 
 pub returns-in-Ok-clause-tells : goal.returns-in-Ok-clause-tells
 returns-in-Ok-clause-tells g c = λ parts body is at.
@@ -20,7 +21,7 @@ returns-in-Ok-clause-tells g c = λ parts body is at.
 pub returns-in_ok-denied_page-in-Err-Refused-clause-counted : goal.returns-in_ok-denied_page-in-Err-Refused-clause-counted
 returns-in_ok-denied_page-in-Err-Refused-clause-counted g c = λ parts body is none asks.
     absurd (denied_asks_nothing (demand_of c.args.door parts body) c.in-Err-Refused.denied
-    (rw c.in-Err-Refused.field-0-is at (c.in-Err-Refused.ensures.demand parts body is)) asks)
+    (subst (λ unmet. Demands (demand_of c.args.door parts body) (Err unmet)) c.in-Err-Refused.field-0-is (c.in-Err-Refused.ensures.demand parts body is)) asks)
 
 -- one that asks for them is met by them
 pub returns-in-Ok-clause-counted : goal.returns-in-Ok-clause-counted

@@ -1,5 +1,5 @@
 -- The house stops the desk where it asks for that and its head is not refused.
-use Rattle.desk_http.proofs.ReasonLemmas.{house_stops}
+use Rattle.desk_http.proofs.AnswerLemmas.{house_stops}
 use Rattle.desk_http.proofs.answering.stops_at_house.Goals as goal
 
 pub returns : goal.returns

@@ -2,7 +2,7 @@
 use Rattle.std.proofs.Common.{◌∙◌, ap, sym}
 use Rattle.report_words.specs.Targets.{report_asked}
 use Rattle.desk_http.specs.Demands.{asked_report}
-use Rattle.desk_http.proofs.RequestLemmas.{none_asked}
+use Rattle.desk_http.proofs.DemandLemmas.{none_asked}
 use Rattle.desk_http.proofs.demands.asked_report.Goals as goal
 
 pub returns-in-Some : goal.returns-in-Some

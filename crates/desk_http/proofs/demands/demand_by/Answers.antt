@@ -3,7 +3,7 @@ use Rattle.std.proofs.Common.{subst, sym, Err}
 use Rattle.std.proofs.lemmas.Result.{err_from_is_err_and}
 use Rattle.desk_http.specs.Demands.{denied_by, demanded}
 use Rattle.desk_http.specs.DemandValues.{Demands, sender_said}
-use Rattle.desk_http.proofs.RequestLemmas.{refused_body}
+use Rattle.desk_http.proofs.DemandLemmas.{refused_body}
 use Rattle.desk_http.proofs.demands.demand_by.Goals as goal
 
 pub returns-in_err-load-in-LoadBatch : goal.returns-in_err-load-in-LoadBatch

@@ -1,7 +1,7 @@
 -- A request of the house is for a stop, for the metrics, for a report, or for what agents ask for too.
 use Rattle.std.proofs.Common.{◌∙◌, refl, subst, sym, false}
 use Rattle.desk_http.specs.DemandValues.{Demands}
-use Rattle.desk_http.proofs.RequestLemmas.{house_if}
+use Rattle.desk_http.proofs.DemandLemmas.{house_if}
 use Rattle.desk_http.proofs.demands.house_demand.Goals as goal
 
 -- that the desk stops

@@ -1,5 +1,5 @@
 -- The law holds of each message.
-use Rattle.desk_http.proofs.AskLemmas.{answered_as_before}
+use Rattle.desk_http.proofs.AgainLemmas.{answered_as_before}
 use Rattle.desk_http.proofs.laws.again.Goals as goal
 
 pub returns : goal.returns

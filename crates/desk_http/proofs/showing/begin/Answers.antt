@@ -1,14 +1,18 @@
-use Rattle.std.proofs.Common.{◌∙◌, ap, rules}
+use Rattle.std.proofs.Common.{◌≡◌, ◌∙◌, ap, rules, subst, sym}
+use Rattle.commands.specs.declared.replies.Refusal.TheVariants.{BadBody}
+use Rattle.http_pages.specs.Admitting.{plain}
 use Rattle.http_pages.proofs.TextLemmas.{not_utf8}
 use Rattle.desk_http.specs.Demands.{begin_by, begin_of}
+use Rattle.desk_http.specs.DemandValues.{AsksFor}
+use Rattle.desk_http.specs.declared.demands.Unmet.TheVariants.{Refused}
 use Rattle.desk_http.proofs.PlanTextLemmas.{no_value, value_of_text}
 use Rattle.desk_http.proofs.showing.begin.Goals as goal
 
 -- a body that is not UTF-8 has no value
 pub returns-in_default : goal.returns-in_default
-returns-in_default c = record {
-  begin = no_value c.args.body.now c.from.result (not_utf8 c.args.body.now c.in_default.ensures.cases.0) (search rules);
-}
+returns-in_default c =
+    let gave : c.from.result ≡ Refused (plain BadBody) = search rules in
+    record { begin = no_value c.args.body.now c.from.result (not_utf8 c.args.body.now c.in_default.ensures.cases.0) gave }
 
 -- the value of the body is that of the plan, which is read back
 pub returns-in-Some : goal.returns-in-Some
@@ -24,4 +28,7 @@ returns-in-Some c =
 pub returns-in-None : goal.returns-in-None
 returns-in-None c =
     let cases = c.in-Ok.ensures.cases in
-    record { begin = rw (value_of_text c.args.body.now c.in-Ok.text.now cases.1 cases.0) c.begin_of.ensures.begin }
+    record {
+      begin = subst (λ z. AsksFor (begin_by z) c.begin_of.result)
+          (sym (value_of_text c.args.body.now c.in-Ok.text.now cases.1 cases.0)) c.begin_of.ensures.begin;
+    }

@@ -3,16 +3,9 @@ use Rattle.std.proofs.lemmas.Grind.{common_steps}
 use Rattle.std.proofs.Common.{◌≡◌, ◌∙◌, ap, arith, rules, sym, ℕ, List, None, Some}
 use Rattle.http_pages.specs.Pages.{Paged, Value}
 use Rattle.http_pages.specs.declared.heads.Status.TheVariants.{Fine}
-use Rattle.ledger.specs.Ledger.{Event}
-use Rattle.saga_core.specs.Views.{record_of}
-use Rattle.saga_core.specs.declared.records.Record.{Record}
 use Rattle.desk_http.specs.Pages.{own_journey, why_page}
-use Rattle.desk_http.specs.declared.doors.Asker.{Asker}
+use Rattle.desk_http.proofs.WhyLemmas.{own_found}
 use Rattle.desk_http.proofs.whys.see_why.Goals as goal
-
--- a journey that who asks sees is one of the ledger
-own_found : (l : List Event) (asker : Asker) (id : ℕ) (r : Record) → own_journey l asker id ≡ Some r → record_of l id ≡ Some r
-own_found l asker id r is = grind arith
 
 pub returns : goal.returns
 returns g c = record {

@@ -1,6 +1,9 @@
 -- The bytes of each text are those of its argument.
 use Rattle.std.proofs.Common.{rules, arith}
-use Rattle.desk_sql.{specs.Changes.kept, proofs.Inserting.keeps_answer, proofs.Effects.numbered_at, proofs.Writing.pos_is}
+use Rattle.desk_sql.specs.Changes.{kept}
+use Rattle.desk_sql.proofs.Inserting.{keeps_answer}
+use Rattle.desk_sql.proofs.Effects.{numbered_at}
+use Rattle.desk_sql.proofs.Writing.{pos_is}
 use Rattle.desk_sql.proofs.answers.insert_answer.Goals as goal
 
 pub returns : goal.returns

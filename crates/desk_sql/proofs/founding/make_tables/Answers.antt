@@ -10,9 +10,9 @@ use Rattle.desk_sql.specs.Indexing.{MayIndex, MakesIndex, AreShortAgents}
 use Rattle.desk_sql.specs.Schema.{desk_schema}
 use Rattle.desk_sql.specs.Rows.{no_rows}
 use Rattle.desk_sql.proofs.AgentIndex.{indexed_makes}
+use Rattle.desk_sql.proofs.CreateReasons.{all_reached, fails_later, runs_next, runs_none, table_texts, text_fails}
 use Rattle.desk_sql.proofs.Making.{sees_none}
 use Rattle.desk_sql.proofs.Quieting.{survives_twice}
-use Rattle.desk_sql.proofs.CreateReasons.{all_reached, fails_later, runs_next, runs_none, table_texts, text_fails}
 use Rattle.desk_sql.proofs.founding.make_tables.Goals as goal
 
 -- tables without rows have no agents

@@ -1,6 +1,9 @@
 -- Each number is passed as the integer that it is.
 use Rattle.std.proofs.Common.{rules, arith}
-use Rattle.desk_sql.{specs.Changes.begun, proofs.Inserting.begins_journey, proofs.Effects.keyed, proofs.Writing.pos_is}
+use Rattle.desk_sql.specs.Changes.{begun}
+use Rattle.desk_sql.proofs.Inserting.{begins_journey}
+use Rattle.desk_sql.proofs.Effects.{keyed}
+use Rattle.desk_sql.proofs.Writing.{pos_is}
 use Rattle.desk_sql.proofs.journeys.insert_journey.Goals as goal
 
 pub returns : goal.returns

@@ -6,4 +6,6 @@ use Rattle.desk_sql.proofs.Writing.{pos_is}
 use Rattle.desk_sql.proofs.marks.delete_mark.Goals as goal
 
 pub returns : goal.returns
-returns g c = record { writes = keyed (drops c.args.journey c.args.pos) _ c.execute.ensures.runs (search (rules, pos_is)) (search rules) }
+returns g c = record {
+  writes = keyed (drops c.args.journey c.args.pos) _ c.execute.ensures.runs (search (rules, pos_is)) (search rules);
+}

@@ -1,6 +1,9 @@
 -- Each number is passed as the integer that it is.
 use Rattle.std.proofs.Common.{rules, arith}
-use Rattle.desk_sql.{specs.Changes.untaken, proofs.Inserting.offers_step, proofs.Effects.numbered_at, proofs.Writing.pos_is}
+use Rattle.desk_sql.specs.Changes.{untaken}
+use Rattle.desk_sql.proofs.Inserting.{offers_step}
+use Rattle.desk_sql.proofs.Effects.{numbered_at}
+use Rattle.desk_sql.proofs.Writing.{pos_is}
 use Rattle.desk_sql.proofs.steps.insert_step.Goals as goal
 
 pub returns : goal.returns

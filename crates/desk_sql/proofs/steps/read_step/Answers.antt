@@ -1,7 +1,10 @@
 -- The last column of an option is a number.
 use Rattle.std.proofs.Common.{◌≡◌, ℕ, pos, refl, rules, arith}
-use Rattle.sqlite.specs.declared.types.{Value.Value, Value.TheVariants.Int}
-use Rattle.desk_sql.{specs.Causes.IsMemory, specs.Readable.step_shown, proofs.Causing.column_memory}
+use Rattle.sqlite.specs.declared.types.Value.{Value}
+use Rattle.sqlite.specs.declared.types.Value.TheVariants.{Int}
+use Rattle.desk_sql.specs.Causes.{IsMemory}
+use Rattle.desk_sql.specs.Readable.{step_shown}
+use Rattle.desk_sql.proofs.Causing.{column_memory}
 use Rattle.desk_sql.proofs.steps.read_step.Goals as goal
 
 pub returns-in_err-places-clause-reason : goal.returns-in_err-places-clause-reason

@@ -1,6 +1,9 @@
 -- Each number is passed as the integer that it is.
 use Rattle.std.proofs.Common.{rules, arith}
-use Rattle.desk_sql.{specs.Stock.placed, proofs.PutReasons.sets_cell, proofs.Effects.numbered_at, proofs.Writing.pos_is}
+use Rattle.desk_sql.specs.Stock.{placed}
+use Rattle.desk_sql.proofs.PutReasons.{sets_cell}
+use Rattle.desk_sql.proofs.Effects.{numbered_at}
+use Rattle.desk_sql.proofs.Writing.{pos_is}
 use Rattle.desk_sql.proofs.stock.put_cell.Goals as goal
 
 pub returns : goal.returns

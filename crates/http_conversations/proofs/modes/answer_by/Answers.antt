@@ -1,7 +1,7 @@
 -- The page of the profile was laid out, or a fault came.
 use Rattle.desk_http.specs.Pages.{closes, command_in, stops}
 use Rattle.desk_http.proofs.ReasonLemmas.{made_goes_on}
-use Rattle.http_conversations.proofs.ReasonLemmas.{faults_by, laid_by, meant_by}
+use Rattle.http_conversations.proofs.PageLemmas.{faults_by, laid_by, meant_by}
 use Rattle.http_conversations.proofs.modes.answer_by.Goals as goal
 
 pub returns-in-Ok-clause-answer : goal.returns-in-Ok-clause-answer

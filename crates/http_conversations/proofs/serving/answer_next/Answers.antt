@@ -8,7 +8,8 @@ use Rattle.http_conversations.specs.Conversations.{history}
 use Rattle.http_conversations.specs.History.{HasNoTurn}
 use Rattle.http_conversations.specs.Serving.{AwaitsNext, to_come}
 use Rattle.saga_core.proofs.CallLemmas.{stays_alone, stays_served, stays_twice}
-use Rattle.http_conversations.proofs.ServeLemmas.{answer_breaks, answers_then, awaits_on, ends_there, fails_next, gets_next, read_fails, reading_fails, reads_on, reads_then}
+use Rattle.http_conversations.proofs.NextLemmas.{awaits_on, ends_there, fails_next, gets_next, reading_fails, reads_on}
+use Rattle.http_conversations.proofs.ServeReasonLemmas.{answer_fails, answers_then, read_fails, reads_then}
 use Rattle.http_conversations.proofs.serving.answer_next.Goals as goal
 
 -- nothing was answered yet
@@ -98,7 +99,7 @@ pub returns-in-Err-clause-reason : goal.returns-in-Err-clause-reason
 returns-in-Err-clause-reason g c = λ first begun x.
     let answer = c.in-Err.ensures in
     rw c.from.ensures
-    (answer_breaks (c.loop.invariant.reason first begun x) c.answer.new.self.served c.in-Err.fault answer.leaves
+    (answer_fails (c.loop.invariant.reason first begun x) c.answer.new.self.served c.in-Err.fault answer.leaves
     answer.serves.sound answer.turn)
 
 -- the input has ended

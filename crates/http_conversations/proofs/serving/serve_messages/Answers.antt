@@ -6,7 +6,8 @@ use Rattle.saga_core.specs.declared.serve_faults.ServeFault.TheVariants.{Read}
 use Rattle.saga_core.proofs.KnownLemmas.{for_known}
 use Rattle.http_conversations.specs.Conversations.{history}
 use Rattle.saga_core.proofs.CallLemmas.{stays_alone, stays_served, stays_twice}
-use Rattle.http_conversations.proofs.ServeLemmas.{all_answered, answer_fails, closes_all, closing_of, open_of, sends_then, serves_none, serves_nothing, starts, stays_on, stops, write_fails}
+use Rattle.http_conversations.proofs.ServeLemmas.{all_answered, answer_fails, closes_all, closing_of, open_of, rest_is, starts, stays_on, stops, write_fails}
+use Rattle.http_conversations.proofs.ServeReasonLemmas.{sends_then, serves_none, serves_nothing}
 use Rattle.http_conversations.proofs.serving.serve_messages.Goals as goal
 
 -- memory ran out at the beginning
@@ -34,7 +35,7 @@ returns-in_err-found-clause-served g c =
     rw (failed.1, failed.2) (record {
       answers = λ sound s stood. for_known (g.R.Read.remaining c.args.reader.now) _ (λ input is.
           let so_far = at.invariant.so_far (next.serves.sound sound) s stood input is in
-          answer_fails so_far sound c.in_err-found.field-0.0 (rw so_far.left_is at next.next));
+          answer_fails so_far sound c.in_err-found.field-0.0 (rest_is so_far _ next.next));
       reasons = (history c.answer_next.new.conversation, next.reason _ _ at.invariant.reason);
     })
 
@@ -46,7 +47,7 @@ returns-then-not-found-clause-served g c =
     record {
       answers = λ sound s stood. for_known (g.R.Read.remaining c.args.reader.now) _ (λ input is.
           let so_far = at.invariant.so_far (next.serves.sound sound) s stood input is in
-          all_answered so_far sound (rw (so_far.left_is, c.if-not-found.true) at next.next));
+          all_answered so_far sound (rw c.if-not-found.true at (rest_is so_far _ next.next)));
       reasons = (history c.answer_next.new.conversation, next.reason _ _ at.invariant.reason);
     }
 
@@ -60,7 +61,7 @@ returns-in_err-send_page-clause-served g c =
     rw (failed.1, failed.2, sent.fault) (record {
       answers = λ sound s stood. for_known (g.R.Read.remaining c.args.reader.now) _ (λ input is.
           let so_far = at.invariant.so_far (next.serves.sound sound) s stood input is in
-          write_fails so_far sound (rw (so_far.left_is, c.if-not-found.false) at next.next) sent.some);
+          write_fails so_far sound (rw c.if-not-found.false at (rest_is so_far _ next.next)) sent.some);
       reasons = (
         history c.send_page.new.conversation,
         sends_then (next.reason _ _ at.invariant.reason) c.send_page.new.conversation.served sent.some.same,
@@ -76,7 +77,7 @@ returns-then-not-is_open-clause-served g c =
     record {
       answers = λ sound s stood. for_known (g.R.Read.remaining c.args.reader.now) _ (λ input is.
           let so_far = at.invariant.so_far (next.serves.sound sound) s stood input is in
-          let got = rw (so_far.left_is, c.if-not-found.false) at next.next in
+          let got = rw c.if-not-found.false at (rest_is so_far _ next.next) in
           closes_all so_far sound got sent.some sent.all
           (closing_of _ (history c.answer_next.new.conversation).stage got.stage (λ is_open.
           let opened = c.is_open.ensures.is_open.1 (sent.some.same.stage ∙ is_open) in
@@ -101,7 +102,7 @@ loop-pages-preserved g c =
       reason = reason;
       so_far = λ sound s stood input is.
           let so_far = at.invariant.so_far (next.serves.sound sound) s stood input is in
-          let got = rw (so_far.left_is, c.if-not-found.false) at next.next in
+          let got = rw c.if-not-found.false at (rest_is so_far _ next.next) in
           stays_on so_far sound got sent.some sent.all
           (open_of _ (history c.answer_next.new.conversation).stage got.stage (sym sent.some.same.stage ∙ is_open)) (sym sent.some.same.stage ∙ is_open);
     }

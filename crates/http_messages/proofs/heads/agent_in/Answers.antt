@@ -1,15 +1,14 @@
 -- Bytes that are no text are no agent.
-use Rattle.std.proofs.Common.{◌∙◌, sym, arith}
+use Rattle.std.proofs.Common.{◌∙◌, sym}
 use Rattle.std.proofs.lemmas.Bool.{and_parts}
-use Rattle.std.proofs.lemmas.Bool.Decides.{nat_tests}
 use Rattle.commands.specs.Names.{is_agent, is_agent_byte}
-use Rattle.http_messages.proofs.ValueLemmas.{no_word}
+use Rattle.http_messages.proofs.WordLemmas.{agent_byte_small, no_word}
 use Rattle.http_messages.proofs.heads.agent_in.Goals as goal
 
 -- the bytes are no text
 pub returns-in_err-ok : goal.returns-in_err-ok
 returns-in_err-ok c = record {
   form = c.from_residual.ensures
-      ∙ sym (no_word is_agent_byte is_agent c.args.bytes.now c.from_utf8.result _ (λ b passes. grind (arith, nat_tests)) (λ good. (and_parts _ _ good).1)
+      ∙ sym (no_word is_agent_byte is_agent c.args.bytes.now c.from_utf8.result _ agent_byte_small (λ good. (and_parts _ _ good).1)
       c.from_utf8.ensures.cases (sym c.ok.ensures.value ∙ c.in_err-ok.was));
 }

@@ -4,7 +4,7 @@ use Rattle.std.proofs.Common.{◌≡◌, ℕ, List}
 use Rattle.http_messages.specs.declared.framing.BodyKind.{BodyKind}
 use Rattle.http_messages.specs.Bodies.{Awaits, IsBody, Reading}
 use Rattle.http_messages.specs.Calls.{Calls, IsAtBeginning, finds_end, goes_on}
-use Rattle.http_messages.proofs.LawLemmas.{one_body}
+use Rattle.http_messages.proofs.BodyLemmas.{one_body}
 
 -- what the calls found is what the reader waited for
 calls_await : {r : Reading} {stream body rest : List ℕ} → Calls r stream body rest → Awaits r stream body rest

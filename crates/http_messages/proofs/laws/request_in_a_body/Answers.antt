@@ -16,7 +16,8 @@ use Rattle.http_messages.specs.Calls.{Calls, finds_end}
 use Rattle.http_messages.specs.WideExamples.{at_chunks, post_bytes, post_page, text_of_get}
 use Rattle.http_messages.specs.Framing.{head_kind}
 use Rattle.http_messages.specs.Wide.{Asks, Wide, WideMessages, ends_after}
-use Rattle.http_messages.proofs.LawLemmas.{begins, body_more}
+use Rattle.http_messages.proofs.BodyLemmas.{begins}
+use Rattle.http_messages.proofs.LawLemmas.{body_more}
 use Rattle.http_messages.proofs.laws.request_in_a_body.Goals as goal
 
 -- the POST is a head

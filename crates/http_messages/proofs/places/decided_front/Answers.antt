@@ -1,7 +1,8 @@
 -- Byte after byte, no prefix is decided, until one is.
 use Rattle.std.proofs.Common.{arith}
 use Rattle.std.proofs.lemmas.Bool.{or_left}
-use Rattle.http_messages.proofs.HeadLemmas.{none_told, told_first, went_on}
+use Rattle.http_messages.proofs.FirstLemmas.{none_told}
+use Rattle.http_messages.proofs.PlaceLemmas.{told_first, went_on}
 use Rattle.http_messages.proofs.places.decided_front.Goals as goal
 
 -- here the prefix is decided

@@ -1,7 +1,7 @@
 -- The first message is the decided prefix, or the request of which it is the head.
 use Rattle.std.proofs.Common.{◌≡◌, ◌∙◌, ap, arith, drop, subst, take}
 use Rattle.http_messages.specs.Requests.{IsRequest}
-use Rattle.http_messages.proofs.HeadLemmas.{no_front_none, no_head_first, none_whole, request_first}
+use Rattle.http_messages.proofs.FirstLemmas.{no_front_none, no_head_first, none_whole, request_first}
 use Rattle.http_messages.proofs.requests.first_message.Goals as goal
 
 -- no prefix is decided

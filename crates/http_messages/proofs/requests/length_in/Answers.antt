@@ -1,6 +1,6 @@
 -- Digit after digit, the number is the one that they spell, and it has room.
 use Rattle.std.proofs.Common.{arith, refl, sym, ap, ◌∙◌, ◌+◌, ◌*◌}
-use Rattle.http_messages.proofs.ValueLemmas.{has_room, number_more, number_told, some_bytes}
+use Rattle.http_messages.proofs.LengthLemmas.{has_room, number_more, number_told, some_bytes}
 use Rattle.http_messages.proofs.requests.length_in.Goals as goal
 
 -- no digit was read yet

@@ -1,4 +1,4 @@
-use Rattle.http_messages.proofs.ValueLemmas.{IsNumberTo}
+use Rattle.http_messages.proofs.LengthLemmas.{IsNumberTo}
 use Rattle.http_messages.proofs.requests.length_in.Given as goal
 
 -- the bytes so far are digits of this number

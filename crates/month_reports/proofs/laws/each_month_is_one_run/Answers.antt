@@ -1,5 +1,5 @@
 use Rattle.std.proofs.Common.{arith}
-use Rattle.month_reports.proofs.OrderLemmas.{are_in_order-filter, cells_in-months_of, list_all-filter, months_apart}
+use Rattle.month_reports.proofs.RunLemmas.{are_in_order-filter, cells_in-months_of, list_all-filter, months_apart}
 use Rattle.month_reports.proofs.laws.each_month_is_one_run.Goals as goal
 
 -- a cell is in its month or begins one

@@ -2,7 +2,7 @@ use Rattle.std.proofs.Common.{sym, arith}
 use Rattle.std.proofs.lemmas.Result.{err_from_is_err_and}
 use Rattle.serde_json.specs.View.{view}
 use Rattle.plan.specs.PlanJson.{json_option}
-use Rattle.plan.proofs.StepLemmas.{options_none, options_more_at, options_fail_at}
+use Rattle.plan.proofs.EachLemmas.{options_none, options_more_at, options_fail_at}
 use Rattle.plan.proofs.json.options_of.Goals as goal
 
 -- nothing was read yet

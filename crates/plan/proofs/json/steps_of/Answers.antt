@@ -4,7 +4,7 @@ use Rattle.std.proofs.lemmas.Result.{err_from_is_err_and}
 use Rattle.serde_json.specs.View.{view}
 use Rattle.plan.specs.PlanJson.{json_step}
 use Rattle.plan.proofs.LevelLemmas.{fault_of_part}
-use Rattle.plan.proofs.StepLemmas.{steps_none, steps_more_at, steps_fail_at}
+use Rattle.plan.proofs.EachLemmas.{steps_none, steps_more_at, steps_fail_at}
 use Rattle.plan.proofs.json.steps_of.Goals as goal
 
 -- nothing was read yet

@@ -14,7 +14,7 @@ use Rattle.plan.proofs.MemberLemmas.{values_of-items_of}
 use Rattle.plan.proofs.LimitLemmas.{limited}
 use Rattle.allotment.proofs.LawLemmas.{word_again}
 use Rattle.allotment.proofs.OwnTextLemmas.{IsSoundWant, is_sound_want}
-use Rattle.plan.proofs.StepLemmas.{drafted_again}
+use Rattle.plan.proofs.KeptLemmas.{drafted_again}
 use Rattle.plan.proofs.SpellLemmas.{map_again}
 
 -- the value of a want is read back as the want

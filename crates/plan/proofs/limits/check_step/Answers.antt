@@ -3,7 +3,7 @@ use Rattle.std.proofs.lemmas.Result.{err_from_is_err_and}
 use Rattle.allotment.proofs.TestLemmas.{and_make}
 use Rattle.plan.specs.PlanModel.{step_said}
 use Rattle.plan.proofs.LevelLemmas.{limits_pass}
-use Rattle.plan.proofs.StepLemmas.{kept_refused, kept_within}
+use Rattle.plan.proofs.KeptLemmas.{kept_refused, kept_within}
 use Rattle.plan.proofs.limits.check_step.Goals as goal
 
 -- its mark, or the number of its options, is wrong

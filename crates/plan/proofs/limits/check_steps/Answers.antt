@@ -2,7 +2,9 @@ use Rattle.std.proofs.Common.{arith, Some}
 use Rattle.std.proofs.lemmas.Result.{err_from_is_err_and}
 use Rattle.plan.specs.PlanModel.{step_said}
 use Rattle.plan.specs.Drafts.{drafted_step}
-use Rattle.plan.proofs.StepLemmas.{steps_none, steps_more_at, steps_fail_at, mapped_more, limits_more}
+use Rattle.plan.proofs.EachLemmas.{steps_none, steps_more_at, steps_fail_at}
+use Rattle.plan.proofs.PrintLemmas.{mapped_more}
+use Rattle.plan.proofs.StepLemmas.{limits_more}
 use Rattle.plan.proofs.limits.check_steps.Goals as goal
 
 -- no step was checked yet

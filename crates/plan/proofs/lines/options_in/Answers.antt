@@ -5,7 +5,7 @@ use Rattle.std.proofs.lemmas.List.{map-append}
 use Rattle.std.proofs.lemmas.Result.{err_from_is_err_and}
 use Rattle.allotment.specs.Texts.{parts, bar}
 use Rattle.plan.specs.PlanLine.{option_draft}
-use Rattle.plan.proofs.StepLemmas.{options_none, options_more, options_fail_at}
+use Rattle.plan.proofs.EachLemmas.{options_none, options_more, options_fail_at}
 use Rattle.plan.proofs.lines.options_in.Goals as goal
 
 -- nothing was read yet

@@ -6,7 +6,7 @@ use Rattle.std.proofs.lemmas.Result.{err_from_is_err_and}
 use Rattle.allotment.specs.Texts.{parts, semicolon}
 use Rattle.plan.specs.PlanLine.{step_draft}
 use Rattle.plan.proofs.LevelLemmas.{fault_of_part}
-use Rattle.plan.proofs.StepLemmas.{steps_none, steps_more, steps_fail_at}
+use Rattle.plan.proofs.EachLemmas.{steps_none, steps_more, steps_fail_at}
 use Rattle.plan.proofs.lines.steps_in.Goals as goal
 
 -- nothing was read yet

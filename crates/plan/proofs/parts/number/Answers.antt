@@ -1,4 +1,5 @@
-use Rattle.std.proofs.Common.{◌≡◌, ap, sym, ◌∙◌, Some, arith, slice_get}
+use Rattle.std.proofs.Common.{◌≡◌, ap, sym, ◌∙◌, Some, arith}
+use Rattle.std.specs.List.{slice_get}
 use Rattle.std.proofs.lemmas.Result.{MatchResult-at_ok, MatchResult-at_err}
 use Rattle.plan.proofs.NumberLemmas.{small_number, small_number_other, small_number_parsed}
 use Rattle.plan.proofs.parts.number.Goals as goal

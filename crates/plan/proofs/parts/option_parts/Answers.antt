@@ -1,7 +1,7 @@
 use Rattle.std.proofs.Common.{◌≡◌, ◌∷◌}
 use Rattle.allotment.specs.Texts.{parts, slash}
 use Rattle.allotment.proofs.CutLemmas.{some_part}
-use Rattle.plan.proofs.OptionLemmas.{seven_parts}
+use Rattle.plan.proofs.CutLemmas.{seven_parts}
 use Rattle.plan.proofs.parts.option_parts.Goals as goal
 
 -- a sixth `/` begins a seventh part

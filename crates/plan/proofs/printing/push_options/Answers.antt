@@ -1,6 +1,6 @@
 use Rattle.std.proofs.Common.{arith}
 use Rattle.allotment.specs.Texts.{want_text, bar}
-use Rattle.plan.proofs.StepLemmas.{printed_more}
+use Rattle.plan.proofs.PrintLemmas.{printed_more}
 use Rattle.plan.proofs.printing.push_options.Goals as goal
 
 -- one more option is appended to those before it

@@ -3,7 +3,7 @@ use Rattle.std.proofs.lemmas.List.{length-map, get_or-map}
 use Rattle.allotment.specs.Texts.{semicolon}
 use Rattle.plan.specs.PlanModel.{step_said}
 use Rattle.plan.specs.PlanLine.{step_text}
-use Rattle.plan.proofs.StepLemmas.{printed_more}
+use Rattle.plan.proofs.PrintLemmas.{printed_more}
 use Rattle.plan.proofs.printing.push_steps.Goals as goal
 
 -- one more step is appended to those before it

@@ -1,7 +1,7 @@
 -- Each position that the loop passes is the last save-point so far, if one stands there.
 use Rattle.std.proofs.Common.{◌≡◌, arith}
 use Rattle.plan.specs.PlanModel.{step_count}
-use Rattle.plan.proofs.FlagsLemmas.{IsLastTo-none, IsLastTo-here, IsLastTo-past, greatest-last}
+use Rattle.plan.proofs.LandingLemmas.{IsLastTo-none, IsLastTo-here, IsLastTo-past, greatest-last}
 use Rattle.plan.proofs.save_points.last_save.Goals as goal
 use Rattle.plan.proofs.save_points.last_save.Goals.{then-is_save_point, else-is_save_point}
 

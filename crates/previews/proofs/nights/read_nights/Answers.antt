@@ -1,5 +1,5 @@
 -- The cells are taken, and what is free of the nights is told from them.
-use Rattle.std.proofs.Common.{◌≡◌, ◌∙◌, ap, arith, rules}
+use Rattle.std.proofs.Common.{◌≡◌, ◌∙◌, ap, arith}
 use Rattle.std.proofs.lemmas.Result.{err_from_is_err_and}
 use Rattle.commands.specs.declared.replies.Fault.{Fault}
 use Rattle.reports.specs.Faults.{report_fault}
@@ -21,7 +21,8 @@ returns-in_err-cells-clause-takes g c = takes_err g.R.RowSource c.in_err-cells.e
 
 -- out of memory for the nights
 pub returns-in_err-nights-clause-takes : goal.returns-in_err-nights-clause-takes
-returns-in_err-nights-clause-takes g c = search (rules, arith, takes_memory, g.R.RowSource, goes, c.in_ok-cells.ensures.takes)
+returns-in_err-nights-clause-takes g c =
+    takes_memory g.R.RowSource (goes g.R.RowSource c.in_ok-cells.ensures.takes) _ c.from_residual-in_err-nights.ensures.1
 
 -- all were taken
 pub returns-clause-nights : goal.returns-clause-nights

@@ -1,12 +1,13 @@
 -- The next step of a running journey, and of one that goes back.
-use Rattle.std.proofs.Common.{◌≡◌, ◌∙◌, ap, arith, is_some, subst, sym, IfSome, Some, rules}
+use Rattle.std.proofs.Common.{◌≡◌, ◌∙◌, ap, arith, is_some, subst, sym, IfSome, Some}
 use Rattle.previews.specs.Previews.{HasOption, IsStepDown}
 use Rattle.previews.proofs.PreviewLemmas.{down_is_next, goes_back, runs_below, up_is_next}
 use Rattle.previews.proofs.steps.next_step.Goals as goal
 
 -- a running journey is short of its last step
 pub returns-in_err-step_up-in-Run-clause-there : goal.returns-in_err-step_up-in-Run-clause-there
-returns-in_err-step_up-in-Run-clause-there c l j here taken = search (rules, arith, runs_below, c.args.journey.now, c.in-Run.is)
+returns-in_err-step_up-in-Run-clause-there c l j here taken =
+    absurd (omega (arith, runs_below l j c.args.journey.now here c.in-Run.is, c.in_err-step_up-in-Run.ensures.steps.0))
 
 -- one that goes back has done the step at its position
 pub returns-in_err-step_down-in-Back-clause-there :

@@ -3,7 +3,8 @@ use Rattle.commands.specs.Request as request
 use Rattle.ledger.proofs.Deciding.{each_open_has_one}
 use Rattle.recovery.specs.Asking.{SteppedTo, stays, goes}
 use Rattle.recovery.specs.Following.{AfterMove}
-use Rattle.recovery.proofs.FollowLemmas.{move-left, move-steps, standing, step-moves}
+use Rattle.recovery.proofs.FollowLemmas.{move-left, move-steps, standing}
+use Rattle.recovery.proofs.TellLemmas.{step-moves}
 use Rattle.recovery.proofs.asking.step.Goals as goal
 
 -- the reply reports the phase after the journey's one step

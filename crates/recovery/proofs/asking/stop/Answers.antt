@@ -2,7 +2,8 @@ use Rattle.std.proofs.Common.{ap, sym, ◌∙◌, subst, is_some}
 use Rattle.commands.specs.Request as request
 use Rattle.recovery.specs.Asking.{stop_of, Adds, none, one}
 use Rattle.recovery.specs.Following.{AfterMove}
-use Rattle.recovery.proofs.FollowLemmas.{move-adds, move-left, stop-moves}
+use Rattle.recovery.proofs.FollowLemmas.{move-adds, move-left}
+use Rattle.recovery.proofs.TellLemmas.{stop-moves}
 use Rattle.recovery.proofs.asking.stop.Goals as goal
 
 -- the reply reports a phase exactly if the journey turned

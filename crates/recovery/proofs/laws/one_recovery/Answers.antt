@@ -1,5 +1,5 @@
 -- The rules are deterministic.
-use Rattle.recovery.proofs.RecoverLemmas.{recovery-one}
+use Rattle.recovery.proofs.OneLemmas.{recovery-one}
 use Rattle.recovery.proofs.laws.one_recovery.Goals as goal
 
 pub returns : goal.returns

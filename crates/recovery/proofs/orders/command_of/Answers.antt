@@ -1,6 +1,6 @@
 -- Too few or too many words make no request.
 use Rattle.std.proofs.Common.{arith}
-use Rattle.recovery.proofs.OneLineLemmas.{other_words}
+use Rattle.recovery.proofs.OrderLemmas.{other_words}
 use Rattle.recovery.proofs.orders.command_of.Goals as goal
 
 -- there are not two, three or four words

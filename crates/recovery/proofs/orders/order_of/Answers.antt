@@ -3,7 +3,7 @@ use Rattle.std.proofs.Common.{◌∙◌, subst, sym}
 use Rattle.std.specs.Str.{IsUtf8}
 use Rattle.std.proofs.lemmas.Result.{IfOk-weaker}
 use Rattle.recovery.specs.Orders.{meaning_of}
-use Rattle.recovery.proofs.OneLineLemmas.{means_as_text, means_no_text}
+use Rattle.recovery.proofs.OrderLemmas.{means_as_text, means_no_text}
 use Rattle.recovery.proofs.orders.order_of.Goals as goal
 
 -- the text is what the line keeps

@@ -2,7 +2,7 @@
 use Rattle.std.proofs.Common.{sym, ◌∙◌, arith}
 use Rattle.saga_core.proofs.CallLemmas.{stays_read, stays_served, stays_twice}
 use Rattle.recovery.specs.Growing.{with_events}
-use Rattle.recovery.proofs.CarryLemmas.{carried-all, carried-cut, carried-fault, carried-further, carried-look, carried-more, carried-over, goes-first}
+use Rattle.recovery.proofs.CarriedLemmas.{carried-all, carried-cut, carried-fault, carried-further, carried-look, carried-more, carried-over, goes-first}
 use Rattle.recovery.proofs.FollowLemmas.{come, goes-read, left-read, standing}
 use Rattle.recovery.proofs.PassLemmas.{sum-fits}
 use Rattle.recovery.proofs.passes.carry.Goals as goal

@@ -2,7 +2,7 @@
 use Rattle.ledger.specs.Answer.{State}
 use Rattle.saga_core.specs.Calls.{Stays}
 use Rattle.recovery.specs.Following.{MayGoOn}
-use Rattle.recovery.proofs.CarryLemmas.{CarriedSoFar}
+use Rattle.recovery.proofs.CarriedLemmas.{CarriedSoFar}
 use Rattle.recovery.proofs.passes.carry.Given as goal
 
 abbrev pub invariant-loop-round : goal.invariant-loop-round

@@ -1,7 +1,7 @@
 use Rattle.std.proofs.Common.{sym, ◌∙◌, arith}
 use Rattle.saga_core.proofs.CallLemmas.{stays_served, stays_twice}
 use Rattle.recovery.specs.Growing.{with_events}
-use Rattle.recovery.proofs.CarryLemmas.{one-done, one-fault, one-on, one-refused}
+use Rattle.recovery.proofs.CarriedOneLemmas.{one-done, one-fault, one-on, one-refused}
 use Rattle.recovery.proofs.FollowLemmas.{standing}
 use Rattle.recovery.proofs.passes.carry_one.Goals as goal
 

@@ -6,7 +6,7 @@ use Rattle.saga_core.specs.Calls.{Stays}
 use Rattle.recovery.specs.Following.{MayGoOn}
 use Rattle.recovery.specs.Growing.{Grew}
 use Rattle.recovery.specs.Passes.{goes_on}
-use Rattle.recovery.proofs.CarryLemmas.{Carrying}
+use Rattle.recovery.proofs.CarriedOneLemmas.{Carrying}
 use Rattle.recovery.proofs.passes.carry_one.Given as goal
 
 abbrev pub invariant-loop-made : goal.invariant-loop-made

@@ -4,7 +4,7 @@ use Rattle.saga_core.proofs.CallLemmas.{stays_read, stays_served, stays_twice}
 use Rattle.recovery.specs.Following.{MayGoOn}
 use Rattle.recovery.specs.Growing.{with_events}
 use Rattle.recovery.proofs.FollowLemmas.{come, goes-read, left-read, standing}
-use Rattle.recovery.proofs.TurnLemmas.{turned-all, turned-fault, turned-further, turned-look, turned-more, turned-now, turned-over, turned-refused}
+use Rattle.recovery.proofs.TurnedLemmas.{turned-all, turned-fault, turned-further, turned-look, turned-more, turned-now, turned-over, turned-refused}
 use Rattle.recovery.proofs.passes.turn_back.Goals as goal
 use Rattle.recovery.proofs.passes.turn_back.Goals.{then-is_running+in-Ok-true, else-is_running}
 

@@ -3,7 +3,7 @@ use Rattle.std.proofs.Common.{◌≤◌}
 use Rattle.ledger.specs.Answer.{State}
 use Rattle.saga_core.specs.Calls.{Stays}
 use Rattle.recovery.specs.Following.{MayGoOn}
-use Rattle.recovery.proofs.TurnLemmas.{TurnedSoFar}
+use Rattle.recovery.proofs.TurnedLemmas.{TurnedSoFar}
 use Rattle.recovery.proofs.passes.turn_back.Given as goal
 
 abbrev pub invariant-loop-round : goal.invariant-loop-round

@@ -4,7 +4,7 @@ use Rattle.recovery.specs.Following.{HasCome}
 use Rattle.recovery.specs.Growing.{with_events}
 use Rattle.recovery.specs.Passes.{IsUnderWay, IsThrough, made_by}
 use Rattle.recovery.specs.declared.passes.Pass.TheVariants.{On}
-use Rattle.recovery.proofs.RecoverLemmas.{turns-cut, back-cut, came-within, on-came, turns-fault, back-fault, on-fault}
+use Rattle.recovery.proofs.FinishLemmas.{turns-cut, back-cut, came-within, on-came, turns-fault, back-fault, on-fault}
 use Rattle.recovery.proofs.FollowLemmas.{came-over, come-standing, standing}
 use Rattle.recovery.proofs.PassLemmas.{sum-fits, sums-fit}
 use Rattle.recovery.proofs.recovering.recover_all.Goals as goal

@@ -7,8 +7,8 @@ use Rattle.saga_core.specs.declared.serve_faults.ServeFault.{ServeFault}
 use Rattle.saga_core.specs.declared.serve_faults.ServeFault.TheVariants.{Memory, Read}
 use Rattle.saga_core.proofs.KnownLemmas.{for_known}
 use Rattle.saga_core.proofs.CallLemmas.{stays_alone, stays_served, stays_twice}
-use Rattle.recovery.proofs.LineWorldLemmas.{line_fails, may_at_end, may_at_first, may_go_on, same_fault}
-use Rattle.recovery.proofs.LineLemmas.{all_answered, answer_fails, goes_on, read_fails, starts, write_fails}
+use Rattle.recovery.proofs.ReasonLemmas.{line_fails, may_at_end, may_at_first, may_go_on, same_fault}
+use Rattle.recovery.proofs.ServeLemmas.{all_answered, answer_fails, goes_on, read_fails, starts, write_fails}
 use Rattle.recovery.proofs.runs.answer_input.Goals as goal
 
 -- no line was answered
@@ -22,8 +22,8 @@ loop-answered-preserved g c =
     record {
       stays = stays_twice at.stays (stays_served c.answer.ensures.serves);
       so_far = λ sound s stood input is.
-          goes_on _ _ _ _ _ _ s input _ _ _ _ (at.so_far (c.answer.ensures.serves.sound sound) s stood input is)
-          (rw c.if-not-branch.false at c.in_ok-next_line.ensures.line) _ c.in_ok-text.text (c.in_ok-text.ensures.answer sound)
+          goes_on _ _ _ _ _ _ _ s input _ _ _ _ c.in_ok-text.text (at.so_far (c.answer.ensures.serves.sound sound) s stood input is)
+          (rw c.if-not-branch.false at c.in_ok-next_line.ensures.line) (c.in_ok-text.ensures.answer sound)
           (rw c.as_bytes.ensures.value at c.in_ok-send.ensures.sent);
       may_act = λ sound first s later input is may.
           may_go_on _ _ s input _ _ _ later (at.may_act (c.answer.ensures.serves.sound sound) first s later input is may)
@@ -73,8 +73,9 @@ returns-in_err-text-clause-some g c = λ sound s stood.
     let failed = err_from_is_err_and c.from_residual-in_err-text.result c.from_residual-in_err-text.ensures.1 in
     for_known (g.R.Read.remaining c.args.reader.now) _ (λ input is.
     rw (failed.1, failed.2)
-    (answer_fails _ _ _ _ _ _ s input _ _ _ _ (c.loop-answered.invariant.so_far (c.answer.ensures.serves.sound sound) s stood input is)
-    (rw c.if-not-branch.false at c.in_ok-next_line.ensures.line) c.in_err-text.field-0.0 (c.in_err-text.ensures.answer sound)))
+    (answer_fails _ _ _ _ _ _ s input _ _ _ _ c.in_err-text.field-0.0
+    (c.loop-answered.invariant.so_far (c.answer.ensures.serves.sound sound) s stood input is)
+    (rw c.if-not-branch.false at c.in_ok-next_line.ensures.line) (c.in_err-text.ensures.answer sound)))
 
 -- the answer was written in part
 pub returns-in_err-send-clause-some : goal.returns-in_err-send-clause-some
@@ -82,8 +83,9 @@ returns-in_err-send-clause-some g c = λ sound s stood.
     let failed = err_from_is_err_and c.from_residual-in_err-send.result c.from_residual-in_err-send.ensures.1 in
     for_known (g.R.Read.remaining c.args.reader.now) _ (λ input is.
     rw (failed.1, failed.2)
-    (write_fails _ _ _ _ _ _ s input _ _ _ _ (c.loop-answered.invariant.so_far (c.answer.ensures.serves.sound sound) s stood input is)
-    (rw c.if-not-branch.false at c.in_ok-next_line.ensures.line) _ c.in_ok-text.text (c.in_ok-text.ensures.answer sound)
+    (write_fails _ _ _ _ _ _ _ s input _ _ _ _ c.in_ok-text.text
+    (c.loop-answered.invariant.so_far (c.answer.ensures.serves.sound sound) s stood input is)
+    (rw c.if-not-branch.false at c.in_ok-next_line.ensures.line) (c.in_ok-text.ensures.answer sound)
     (rw c.as_bytes.ensures.value at c.in_err-send.ensures.front)))
 
 -- more lines were answered than can be counted

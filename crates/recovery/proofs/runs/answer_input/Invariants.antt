@@ -6,8 +6,8 @@ use Rattle.recovery.specs.Lines.{lines}
 use Rattle.recovery.specs.Reading.{to_come}
 use Rattle.recovery.specs.LineWorlds.{asks_in}
 use Rattle.saga_core.specs.StreamScenes.{scene}
-use Rattle.recovery.proofs.LineWorldLemmas.{MayStill}
-use Rattle.recovery.proofs.LineLemmas.{SoFar}
+use Rattle.recovery.proofs.ReasonLemmas.{MayStill}
+use Rattle.recovery.proofs.ServeLemmas.{SoFar}
 use Rattle.recovery.proofs.runs.answer_input.Given as goal
 
 -- the lines so far were answered, and the others are in the rest of the input

@@ -3,7 +3,7 @@ use Rattle.std.proofs.Common.{Global, Err, arith, None, Ok}
 use Rattle.std.proofs.lemmas.Result.{err_from_is_err_and}
 use Rattle.recovery.specs.Answering.{AnswersOrder}
 use Rattle.saga_core.specs.StreamFaults.{served_fault}
-use Rattle.recovery.proofs.LineWorldLemmas.{command_fails, same_fault}
+use Rattle.recovery.proofs.ReasonLemmas.{command_fails, same_fault}
 use Rattle.recovery.proofs.runs.carry_out.Goals as goal
 use Rattle.commands.specs.Request.{Request}
 use Rattle.commands.specs.declared.replies.Fault.{Fault}

@@ -1,5 +1,5 @@
 -- The report is written in its parts: its head, the lines of its cells, and its ending.
-use Rattle.std.proofs.Common.{◌≡◌, ◌∙◌, arith, length, subst, sym, codes}
+use Rattle.std.proofs.Common.{◌≡◌, ◌∙◌, Err, ap, arith, length, subst, sym, codes}
 use Rattle.std.proofs.lemmas.Result.{err_from_is_err_and}
 use Rattle.std.specs.Io.KnownBytes.{Appends}
 use Rattle.reports.proofs.FrontLemmas.{front_whole}
@@ -7,7 +7,7 @@ use Rattle.reports.specs.Formats.{last_line}
 use Rattle.saga_core.specs.Written.{WroteFront}
 use Rattle.report_kinds.specs.Texts.{asked_cells}
 use Rattle.report_writers.proofs.WriteLemmas.{wrote_front}
-use Rattle.report_writers.proofs.ShowLemmas.{in_as, in_none, same_fault}
+use Rattle.report_writers.proofs.ShowLemmas.{in_as, in_none}
 use Rattle.report_writers.proofs.StockLemmas.{all_written, ending_front, head_front, lines_front}
 use Rattle.report_writers.proofs.asked_reports.write_kinds.Goals as goal
 
@@ -22,11 +22,13 @@ returns-in_err-begin_stock g c =
 
 -- the head was written, and a prefix of the lines
 pub returns-in_err-count : goal.returns-in_err-count
-returns-in_err-count g c = record {
-  shows = λ v. in_as g.S.Store (c.in_err-count.ensures.cells v) (λ s fits. fits) (same_fault _ c.from_residual-in_err-count.ensures.1) (λ s desk fits wrote rows stock.
-      wrote_front _ _ _ c.from_residual-in_err-count.result c.from_residual-in_err-count.ensures.0
-      (lines_front c.args.format (asked_cells c.args.filter.now rows) _ _ c.in_ok-begin_stock.ensures.sent _ (wrote rows stock).front));
-}
+returns-in_err-count g c =
+    let failed = err_from_is_err_and c.from_residual-in_err-count.result c.from_residual-in_err-count.ensures.1 in
+    record {
+      shows = λ v. in_as g.S.Store (c.in_err-count.ensures.cells v) (λ s fits. fits) (λ e. sym (failed.1 ∙ ap Err failed.2) ∙ e) (λ s desk fits wrote rows stock.
+          wrote_front _ _ _ c.from_residual-in_err-count.result c.from_residual-in_err-count.ensures.0
+          (lines_front c.args.format (asked_cells c.args.filter.now rows) _ _ c.in_ok-begin_stock.ensures.sent _ (wrote rows stock).front));
+    }
 
 -- all lines, and a prefix of the ending
 pub returns-in_err-end_stock : goal.returns-in_err-end_stock

@@ -5,7 +5,7 @@ use Rattle.sql_lists.specs.JourneyLists.{is_journey_listed}
 use Rattle.sql_lists.specs.ListedRows.{BriefsRest}
 use Rattle.sql_reads.proofs.Starting.{not_started}
 use Rattle.report_writers.proofs.HandedBriefs.{asked_agree, briefs_there, good_there}
-use Rattle.report_writers.proofs.ReadyLemmas.{started_good}
+use Rattle.report_writers.proofs.StartLemmas.{started_good}
 use Rattle.report_writers.proofs.brief_rows.start_journeys.Goals as goal
 
 pub returns : goal.returns

@@ -4,7 +4,7 @@ use Rattle.desk_sql.specs.FoundRows.{is_unfinished_after}
 use Rattle.sql_lists.specs.ListedRows.{BriefsRest}
 use Rattle.sql_reads.proofs.Starting.{not_started}
 use Rattle.report_writers.proofs.HandedBriefs.{briefs_there, goes_on, goes_on_agree, good_there}
-use Rattle.report_writers.proofs.ReadyLemmas.{started_good}
+use Rattle.report_writers.proofs.StartLemmas.{started_good}
 use Rattle.report_writers.proofs.brief_rows.start_unfinished.Goals as goal
 
 pub returns : goal.returns

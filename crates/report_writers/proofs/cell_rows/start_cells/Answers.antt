@@ -8,8 +8,8 @@ use Rattle.desk_sql.specs.Stock.{IsByCell}
 use Rattle.sql_lists.specs.CellLists.{is_row_asked}
 use Rattle.sql_model.specs.Reading.{stock_row_of}
 use Rattle.sql_reads.proofs.Starting.{not_started}
-use Rattle.report_writers.proofs.HandedStock.{asked_in_order}
-use Rattle.report_writers.proofs.ReadyLemmas.{started_good}
+use Rattle.report_writers.proofs.HandedCells.{asked_in_order}
+use Rattle.report_writers.proofs.StartLemmas.{started_good}
 use Rattle.report_writers.proofs.StockOrder.{good_kept, stock_there}
 use Rattle.report_writers.proofs.cell_rows.start_cells.Goals as goal
 

@@ -3,7 +3,7 @@ use Rattle.std.proofs.Common.{map, refl}
 use Rattle.sql_model.specs.Reading.{stock_row_of}
 use Rattle.sql_reads.proofs.Starting.{not_started}
 use Rattle.report_writers.proofs.HandedStock.{stock_in_order}
-use Rattle.report_writers.proofs.ReadyLemmas.{started_good}
+use Rattle.report_writers.proofs.StartLemmas.{started_good}
 use Rattle.report_writers.proofs.StockOrder.{stock_there}
 use Rattle.report_writers.proofs.cell_rows.start_stock.Goals as goal
 

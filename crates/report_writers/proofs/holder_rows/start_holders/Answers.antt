@@ -3,8 +3,8 @@ use Rattle.std.proofs.Common.{map, refl}
 use Rattle.reports.specs.Holders.{holders_of}
 use Rattle.sql_reads.proofs.Starting.{not_started}
 use Rattle.report_writers.specs.HoldersLeft.{found_of}
-use Rattle.report_writers.proofs.HeldRows.{lists_holders}
-use Rattle.report_writers.proofs.ReadyLemmas.{started}
+use Rattle.report_writers.proofs.HandedHolders.{lists_holders}
+use Rattle.report_writers.proofs.StartLemmas.{started}
 use Rattle.report_writers.proofs.holder_rows.start_holders.Goals as goal
 
 pub returns : goal.returns

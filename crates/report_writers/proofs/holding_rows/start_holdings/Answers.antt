@@ -3,7 +3,7 @@ use Rattle.std.proofs.Common.{refl}
 use Rattle.sql_reads.proofs.ReadReasons.{row_agent}
 use Rattle.sql_reads.proofs.Starting.{not_started}
 use Rattle.report_writers.proofs.HandedHoldings.{expected_good, holdings_told, lists_holdings}
-use Rattle.report_writers.proofs.ReadyLemmas.{started}
+use Rattle.report_writers.proofs.StartLemmas.{started}
 use Rattle.report_writers.proofs.StockOrder.{stock_there}
 use Rattle.report_writers.proofs.holding_rows.start_holdings.Goals as goal
 

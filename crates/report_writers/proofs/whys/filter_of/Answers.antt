@@ -3,7 +3,7 @@ use Rattle.std.proofs.Common.{◌≡◌, ◌∙◌, ◌+◌, ◌-◌, ap, ap₂,
 use Rattle.allotment.specs.Limits.{is_night}
 use Rattle.allotment.specs.Texts.{keep_if}
 use Rattle.saga_core.specs.declared.cell_filters.CellFilter.{CellFilter}
-use Rattle.report_writers.proofs.StockLemmas.{lets_cells}
+use Rattle.report_writers.proofs.WhyLemmas.{lets_cells}
 use Rattle.report_writers.proofs.whys.filter_of.Goals as goal
 
 pub returns : goal.returns

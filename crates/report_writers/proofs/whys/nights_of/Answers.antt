@@ -5,7 +5,7 @@ use Rattle.allotment.specs.declared.places.Held.{Held as Places}
 use Rattle.saga_core.specs.CellFilters.{is_cell_of}
 use Rattle.report_writers.proofs.ReadyLemmas.{ready_alone, takes_fails}
 use Rattle.report_writers.proofs.ShowLemmas.{shows_none, shows_rows}
-use Rattle.report_writers.proofs.StockLemmas.{nights-asked}
+use Rattle.report_writers.proofs.WhyLemmas.{nights-asked}
 use Rattle.report_writers.proofs.whys.nights_of.Goals as goal
 
 pub returns : goal.returns

@@ -1,7 +1,7 @@
 -- The digits come over the blanks before their end.
 use Rattle.std.proofs.Common.{arith, subst, decimal}
 use Rattle.reports.specs.Columns.{PutsDigits}
-use Rattle.reports.proofs.FillLemmas.{digits_over}
+use Rattle.reports.proofs.ColumnLemmas.{digits_over}
 use Rattle.reports.proofs.columns.put_number.Goals as goal
 
 pub returns-clause-number : goal.returns-clause-number

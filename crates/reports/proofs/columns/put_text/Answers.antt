@@ -1,6 +1,6 @@
 -- The text comes over the blanks.
 use Rattle.std.proofs.Common.{arith}
-use Rattle.reports.proofs.FillLemmas.{text_over}
+use Rattle.reports.proofs.ColumnLemmas.{text_over}
 use Rattle.reports.proofs.columns.put_text.Goals as goal
 
 pub returns-clause-text : goal.returns-clause-text

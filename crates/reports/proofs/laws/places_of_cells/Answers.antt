@@ -1,5 +1,5 @@
 -- The holders of each cell hold all that is held of it.
-use Rattle.reports.proofs.SumLemmas.{sum_by-holdings_in}
+use Rattle.reports.proofs.CellSumLemmas.{sum_by-holdings_in}
 use Rattle.reports.proofs.laws.places_of_cells.Goals as goal
 
 pub returns : goal.returns

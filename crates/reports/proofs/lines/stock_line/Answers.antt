@@ -4,7 +4,7 @@ use Rattle.allotment.specs.Nights.{night_text}
 use Rattle.allotment.specs.Places.{held_of}
 use Rattle.allotment.specs.Texts.{kind_word}
 use Rattle.reports.specs.Columns.{PutsDigits, PutsText}
-use Rattle.reports.proofs.FillLemmas.{code_short, columns_written, kind_short, places_short}
+use Rattle.reports.proofs.ColumnLemmas.{code_short, columns_written, kind_short, places_short}
 use Rattle.reports.proofs.lines.stock_line.Goals as goal
 
 -- each number of places has at most six digits
@@ -12,10 +12,17 @@ pub put_number-requires-clause-room : goal.put_number-requires-clause-room
 put_number-requires-clause-room c = omega (arith, places_short c.args.places.now.allot c.held-held.ensures.bounded)
 
 pub put_number-requires-2-clause-room : goal.put_number-requires-2-clause-room
-put_number-requires-2-clause-room c = grind (arith, places_short)
+put_number-requires-2-clause-room c =
+    let held = c.held-held.ensures in
+    let held_few : c.held-held.result ≤ 100000 = omega (arith, held.held, held.within, held.bounded) in
+    omega (arith, places_short c.held-held.result held_few)
 
 pub put_number-requires-3-clause-room : goal.put_number-requires-3-clause-room
-put_number-requires-3-clause-room c = grind (arith, places_short)
+put_number-requires-3-clause-room c =
+    let held = c.held-held.ensures in
+    let held_few : c.held-held.result ≤ 100000 = omega (arith, held.held, held.within, held.bounded) in
+    let free_few : c.args.places.now.free ≤ 100000 = omega (arith, held.within, held.bounded) in
+    omega (arith, places_short c.held-held.result held_few, places_short c.args.places.now.free free_few)
 
 pub returns : goal.returns
 returns c =

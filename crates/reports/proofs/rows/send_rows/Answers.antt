@@ -3,7 +3,7 @@ use Rattle.std.proofs.Common.{arith, subst}
 use Rattle.std.proofs.lemmas.Result.{err_from_is_err_and}
 use Rattle.saga_core.specs.RowSources.{Hands}
 use Rattle.reports.proofs.RowLemmas.{written_all, written_less, written_more, written_part}
-use Rattle.reports.proofs.TakeLemmas.{given_one, none_left, takes_fault}
+use Rattle.reports.proofs.TakeLemmas.{given_none, given_one, none_left, takes_fault}
 use Rattle.reports.proofs.rows.send_rows.Goals as goal
 
 -- one more row was returned and written
@@ -39,5 +39,5 @@ returns g c = record {
   writes = written_all c.loop-row.invariant.written g.met.R.RowSource.joins
       (record { kept = c.next_row.ensures.kept; sound = c.next_row.ensures.sound; reason = c.in_ok-row.ensures.reason })
       (λ sound rows rest. none_left (g.R.RowSource.rests c.next_row.new.self) rows (subst (Hands (g.R.RowSource.rests c.loop-row.rows) (g.R.RowSource.rests c.next_row.new.self)) c.in_default.is (c.in_ok-row.ensures.next sound) rows rest))
-      (omega (arith, rw c.in_default.is at c.in_ok-row.ensures.counted, c.loop-row.invariant.given));
+      (omega (arith, given_none _ _ c.in_ok-row.ensures.counted c.in_default.is, c.loop-row.invariant.given));
 }

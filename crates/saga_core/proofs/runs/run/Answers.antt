@@ -1,5 +1,5 @@
 -- More than 60 lines: a loop, three ways out, five clauses and four lemmas of its own.
-use Rattle.std.proofs.Common.{◌≡◌, ◌+◌, [], ◌∷◌, ◌++◌, take, ap, sym, ◌∙◌, subst, arith, ℕ, List, drop, refl, append_assoc, IsTrue, Option, Err, take-append-drop, rules}
+use Rattle.std.proofs.Common.{◌≡◌, ◌+◌, [], ◌∷◌, ◌++◌, take, ap, sym, ◌∙◌, subst, arith, ℕ, List, drop, refl, append_assoc, IsTrue, Option, Err, take-append-drop}
 use Rattle.std.proofs.lemmas.List.{take_all, length-map}
 use Rattle.std.specs.Option.{option_copied}
 use Rattle.ledger.specs.Answer.{start, State, is_request}
@@ -133,8 +133,15 @@ loop-command-preserved g c =
       count = c.push_reserved.ensures.len ∙ ap (λ n. n + 1) c.loop-command.invariant.count;
       limits = KeepLimits-more at c.loop-command.invariant.limits c.keep_limits.ensures.limits;
       stays = stays_twice c.loop-command.invariant.stays (stays_acted c.act.ensures);
-      replied = λ sound s st. search (rules, arith, replies_to-more);
-      stands = λ sound s st. search (rules, arith, state_after-more);
+      replied = λ sound s st.
+          let was = c.act.ensures.sound sound in
+          let told = c.in-Ok-act.ensures.reply sound _ (c.loop-command.invariant.stands was s st) in
+          c.push_reserved.ensures.items ∙ ap (λ rs. rs ++ c.in-Ok-act.reply ∷ []) (c.loop-command.invariant.replied was s st)
+          ∙ ap (λ r. replies_to s (take i (asks_of c.args.commands.now)) ++ r ∷ []) told ∙ sym (replies_to-more s at);
+      stands = λ sound s st.
+          let was = c.act.ensures.sound sound in
+          let went = c.in-Ok-act.ensures.after sound _ (c.loop-command.invariant.stands was s st) in
+          subst (g.B.Book.stands c.act.new.self) (sym (state_after-more s at)) went;
       may_act = λ sound first s later may.
           let was = c.act.ensures.sound sound in
           acts_more (g.B.Book.may_act first c.loop-command.book) (g.B.Book.may_act first c.act.new.self) (g.B.Book.has_reason first c.act.new.self)

@@ -4,7 +4,7 @@ use Rattle.commands.specs.Request.{Load}
 use Rattle.sql_reads.proofs.ReadLemmas.{also_ok, read_both}
 use Rattle.sql_commands.specs.Loading.{TellsName, IsTextOf, AnswersKnown}
 use Rattle.sql_commands.proofs.Executing.{IsUnmoved, reads_fail, reads_then, reads_told, then_fails}
-use Rattle.sql_commands.proofs.LoadLemmas.{known_comes}
+use Rattle.sql_commands.proofs.LoadComes.{known_comes}
 use Rattle.sql_commands.proofs.loading.answer_load.Goals as goal
 
 pub returns-in_err-numbers : goal.returns-in_err-numbers

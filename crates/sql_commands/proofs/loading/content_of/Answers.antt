@@ -1,6 +1,6 @@
 -- One more row, followed by a line feed.
 use Rattle.std.proofs.Common.{◌<◌, ◌++◌, ◌∙◌, ℕ, List, length, ap, ap₂, arith, string_bytes}
-use Rattle.sql_commands.proofs.LoadLemmas.{text_more}
+use Rattle.sql_commands.proofs.LoadRows.{text_more}
 use Rattle.sql_commands.proofs.loading.content_of.Goals as goal
 
 pub loop-row-preserved : goal.loop-row-preserved

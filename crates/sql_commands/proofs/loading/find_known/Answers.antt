@@ -1,6 +1,6 @@
 -- The row found for a name is that of the batch that has it.
 use Rattle.sql_reads.proofs.ReadLemmas.{found_rows, query_fails, read_ok}
-use Rattle.sql_commands.proofs.LoadLemmas.{name_told}
+use Rattle.sql_commands.proofs.LoadComes.{name_told}
 use Rattle.sql_commands.proofs.loading.find_known.Goals as goal
 
 pub returns-in-Ok : goal.returns-in-Ok

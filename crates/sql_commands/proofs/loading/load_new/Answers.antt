@@ -2,7 +2,7 @@
 use Rattle.std.proofs.Common.{◌≡◌, sym, subst, rules, option_copied}
 use Rattle.sql_commands.specs.Loading.{HavePlaces, TellsBelow}
 use Rattle.sql_commands.proofs.Executing.{reads_alone, reads_fail, reads_then}
-use Rattle.sql_commands.proofs.LoadLemmas.{below_comes}
+use Rattle.sql_commands.proofs.LoadComes.{below_comes}
 use Rattle.sql_commands.proofs.loading.load_new.Goals as goal
 
 pub returns-in-Ok-Err : goal.returns-in-Ok-Err

@@ -1,20 +1,23 @@
 -- What the rules answer, by the record that is read, is executed.
-use Rattle.std.proofs.Common.{◌≡◌, Err, subst, rules, option_copied}
+use Rattle.std.proofs.Common.{◌≡◌, Err, sym, subst, rules, option_copied}
 use Rattle.commands.specs.declared.items.Phase.TheVariants.{Run}
 use Rattle.commands.specs.declared.replies.Fault.TheVariants.{Store}
 use Rattle.saga_core.specs.declared.records.Record.{Record}
-use Rattle.sql_commands.specs.Moving.{IsUnfit}
+use Rattle.sql_commands.specs.Moving.{IsMade, IsUnfit}
 use Rattle.ledger.specs.Answer.{asker}
 use Rattle.sql_commands.proofs.ComingLemmas.{due_read, has_stand, read_seen, start_made}
 use Rattle.sql_commands.proofs.Executing.{executes_where, reads_fail, reads_never, reads_then}
-use Rattle.sql_commands.proofs.LoadLemmas.{not_failed}
+use Rattle.sql_commands.proofs.LoadRows.{not_failed}
 use Rattle.sql_commands.proofs.moves.answer_motion.Goals as goal
 
 -- a turn to the start
 pub returns-in-Some : goal.returns-in-Some
 returns-in-Some g c =
-    executes_where (c.make_event.ensures c.args.why) (λ s read. rw c.turn-made.ensures.turn
-    (start_made s (option_copied c.args.ask) c.args.found.now c.args.why c.in-Some.cause read c.in-Some.ensures.start))
+    let ask = option_copied c.args.ask in
+    let found = c.args.found.now in
+    executes_where (c.make_event.ensures c.args.why)
+    (λ s read. subst (IsMade s ask found c.args.why) (sym c.turn-made.ensures.turn)
+    (start_made s ask found c.args.why c.in-Some.cause read c.in-Some.ensures.start))
 
 -- what the rules answer by the record
 pub returns : goal.returns

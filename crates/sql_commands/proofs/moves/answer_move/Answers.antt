@@ -1,6 +1,6 @@
 -- A journey that the caller sees is moved, and any other is refused.
 use Rattle.std.proofs.Common.{rules, option_copied}
-use Rattle.sql_commands.proofs.Permitted.{unseen_refused}
+use Rattle.sql_commands.proofs.LeadLemmas.{unseen_refused}
 use Rattle.sql_commands.proofs.Executing.{reads_alone, reads_fail, reads_then}
 use Rattle.sql_commands.proofs.moves.answer_move.Goals as goal
 

@@ -4,7 +4,7 @@ use Rattle.ledger.specs.Answer.{asker}
 use Rattle.sql_reads.proofs.GoodPlans.{not_both}
 use Rattle.sql_reads.proofs.ReadLemmas.{read_both, read_err, read_never, read_ok, then_err}
 use Rattle.sql_commands.proofs.ComingLemmas.{stand_none, stand_seen, stand_unseen}
-use Rattle.sql_commands.proofs.Possible.{stand_placed}
+use Rattle.sql_commands.proofs.Reasons.{stand_placed}
 use Rattle.sql_commands.proofs.moves.find_stand.Goals as goal
 use Rattle.sql_commands.proofs.moves.find_stand.Goals.{else-id-le-LARGEST-via-then-id-le-LARGEST+then-stand-le-MOST_STEPS+else-is_placed, else-id-le-LARGEST-via-then-id-le-LARGEST+else-stand-le-MOST_STEPS, else-id-le-LARGEST-via-else-id-le-LARGEST}
 

@@ -1,6 +1,6 @@
 -- The numbers of a turn are small.
 use Rattle.std.proofs.Common.{arith}
-use Rattle.sql_commands.proofs.Possible.{turned_small}
+use Rattle.sql_commands.proofs.SmallLemmas.{turned_small}
 use Rattle.sql_commands.proofs.moves.turn.Goals as goal
 
 pub returns-clause-small : goal.returns-clause-small

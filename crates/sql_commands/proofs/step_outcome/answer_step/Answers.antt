@@ -1,12 +1,13 @@
 -- The outcome that the rows of a step give is the reply, and is written.
 -- More than 60 lines: seven ways out.
-use Rattle.std.proofs.Common.{rules, option_copied}
+use Rattle.std.proofs.Common.{rules, subst, sym, option_copied}
 use Rattle.commands.specs.declared.replies.Refusal.TheVariants.{Finished}
 use Rattle.ledger.specs.Answer.{asker}
 use Rattle.sql_reads.proofs.ReadLemmas.{read_both}
+use Rattle.sql_commands.specs.Moving.{IsMade}
 use Rattle.sql_commands.specs.declared.moves.Motion.TheVariants as motion
 use Rattle.sql_commands.proofs.ComingLemmas.{made_step, stand_there, unfit_seen}
-use Rattle.sql_commands.proofs.Permitted.{answered_refused, unseen_refused}
+use Rattle.sql_commands.proofs.LeadLemmas.{answered_refused, unseen_refused}
 use Rattle.sql_commands.proofs.Executing.{reads_alone, reads_fail, reads_then, then_fails}
 use Rattle.sql_commands.proofs.step_outcome.answer_step.Goals as goal
 
@@ -28,21 +29,25 @@ returns-in_err-choice-in-Ok-Some g c =
 pub returns-in-Up : goal.returns-in-Up
 returns-in-Up g c =
     let ask = option_copied c.args.ask in
+    let found = c.in-Ok-Some.found in
     let number = rw c.in-Ok-Some.field-0-is at c.in-Ok-Some.ensures.number in
     rw (← number) (reads_then (λ s due. due.desk)
     (read_both (rw c.in-Ok-Some.field-0-is at c.in-Ok-Some.ensures.read) (rw c.in-Up.is at c.in_ok-choice-in-Ok-Some.ensures.read))
     (c.make_event.ensures motion.Refused) (λ s due both. (let here = both.0 in
-    rw c.step_up-made.ensures.up (made_step s ask c.in-Ok-Some.found _ due.desk due.new here (both.1 _ here.journey here.seen here.stand)))))
+    subst (IsMade s ask found motion.Refused) (sym c.step_up-made.ensures.up)
+    (made_step s ask found _ due.desk due.new here (both.1 (asker ask) here.journey here.seen here.stand)))))
 
 -- a step that is compensated
 pub returns-in-Down : goal.returns-in-Down
 returns-in-Down g c =
     let ask = option_copied c.args.ask in
+    let found = c.in-Ok-Some.found in
     let number = rw c.in-Ok-Some.field-0-is at c.in-Ok-Some.ensures.number in
     rw (← number) (reads_then (λ s due. due.desk)
     (read_both (rw c.in-Ok-Some.field-0-is at c.in-Ok-Some.ensures.read) (rw c.in-Down.is at c.in_ok-choice-in-Ok-Some.ensures.read))
     (c.make_event-in-Down.ensures motion.Refused) (λ s due both. (let here = both.0 in
-    rw c.step_down-made.ensures.down (made_step s ask c.in-Ok-Some.found _ due.desk due.new here (both.1 _ here.journey here.seen here.stand)))))
+    subst (IsMade s ask found motion.Refused) (sym c.step_down-made.ensures.down)
+    (made_step s ask found _ due.desk due.new here (both.1 (asker ask) here.journey here.seen here.stand)))))
 
 -- a turn, which the plan decides
 pub returns-in-Refused : goal.returns-in-Refused

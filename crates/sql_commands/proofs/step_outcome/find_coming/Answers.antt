@@ -2,7 +2,7 @@
 use Rattle.std.proofs.Common.{◌≡◌, rules, arith}
 use Rattle.sql_reads.proofs.ReadLemmas.{read_both, read_err, read_ok, then_err}
 use Rattle.sql_commands.proofs.ComingLemmas.{up_comes, down_comes, refused_comes}
-use Rattle.sql_commands.proofs.Possible.{has_step, takes_last}
+use Rattle.sql_commands.proofs.Reasons.{has_step, takes_last}
 use Rattle.sql_commands.proofs.step_outcome.find_coming.Goals as goal
 
 pub returns-then-fitting-clause-read : goal.returns-then-fitting-clause-read

@@ -1,6 +1,6 @@
 -- The numbers of a step that is compensated are small.
 use Rattle.std.proofs.Common.{arith}
-use Rattle.sql_commands.proofs.Possible.{stepped_down_small}
+use Rattle.sql_commands.proofs.SmallLemmas.{stepped_down_small}
 use Rattle.sql_commands.proofs.step_outcome.step_down.Goals as goal
 
 pub returns-clause-small : goal.returns-clause-small

@@ -8,7 +8,8 @@ pub returns : goal.returns
 returns g c =
     let f = c.args.filter.now in
     let it = c.query in
+    let made = it.ensures in
     let both = handed holdings_meant g.S.Store tt c.args.conn it.follows.lender-at-none it.result (holdings_take f.kind f.supplier f.product f.from f.to)
-    (holdings_only f _) it.follows.holds-at-none it.ensures.same_reference it.ensures.begun it.ensures.mode it.ensures.survives
+    (holdings_only f _) it.follows.holds-at-none made.same_reference made.begun made.mode made.survives
     (simp (c.kind_value.ensures.value, c.name_value.ensures.value, c.name_value-2.ensures.value, c.night_value.ensures.value, c.night_value-2.ensures.value) refl) in
     ((refl, it.follows.holds, both.0), record { fault = tt; started = both.1 })

@@ -1,7 +1,7 @@
 -- All items of the journey come after the event that began it.
 use Rattle.std.proofs.Common.{[], Err, refl, ap, sym, ◌∙◌}
 use Rattle.sql_model.proofs.Quieting.{quiet_keeps}
-use Rattle.sql_reads.proofs.ReadJourneys.{all_behind}
+use Rattle.sql_reads.proofs.ReadSought.{all_behind}
 use Rattle.sql_reads.proofs.history_rows.item_cursor.Goals as goal
 
 pub returns-in-Ok-clause-rows : goal.returns-in-Ok-clause-rows

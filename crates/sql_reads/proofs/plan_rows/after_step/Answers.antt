@@ -2,7 +2,8 @@
 use Rattle.std.proofs.Common.{◌≡◌, ◌+◌, ◌<◌, ◌++◌, drop, sym, arith, rules, ltb-true, ltb-false}
 use Rattle.plan.specs.PlanModel.{option_count}
 use Rattle.sql_model.specs.Beginning.{rows_of_step}
-use Rattle.sql_reads.proofs.GoodPlans.{option_more, step_whole, step_left, next_left, more_left, heads, tails}
+use Rattle.sql_reads.proofs.ReadPlans.{option_more, step_whole}
+use Rattle.sql_reads.proofs.GoodPlans.{step_left, next_left, more_left, heads, tails}
 use Rattle.sql_reads.proofs.plan_rows.after_step.Goals as goal
 
 pub loop-option-preserved : goal.loop-option-preserved

@@ -2,7 +2,8 @@
 use Rattle.std.proofs.Common.{◌<◌, ◌+◌, ◌∙◌, rules, eqb-true}
 use Rattle.plan.specs.PlanModel.{step_count}
 use Rattle.sql_reads.specs.PlanRows.{steps_after}
-use Rattle.sql_reads.proofs.GoodPlans.{step_more, plan_whole, steps_left, steps_next}
+use Rattle.sql_reads.proofs.ReadPlans.{step_more, plan_whole}
+use Rattle.sql_reads.proofs.GoodPlans.{steps_left, steps_next}
 use Rattle.sql_reads.proofs.plan_rows.are_of_plan.Goals as goal
 
 pub loop-step-preserved : goal.loop-step-preserved

@@ -1,7 +1,8 @@
 -- The rows of a step give its option.
 use Rattle.std.proofs.Common.{sym, ◌≡◌, subst, rules}
 use Rattle.sql_reads.specs.OptionChoice.{HasTaken, IsTakenChosen, IsLastChoice}
-use Rattle.sql_reads.proofs.ChoiceLemmas.{last_told, has_taken, option_texts}
+use Rattle.sql_reads.proofs.ChoiceLemmas.{last_told}
+use Rattle.sql_reads.proofs.OptionReasons.{has_taken, option_texts}
 use Rattle.sql_reads.proofs.ReadLemmas.{also_ok, found_rows, query_fails, read_so}
 use Rattle.sql_reads.proofs.plan_rows.last_choice.Goals as goal
 

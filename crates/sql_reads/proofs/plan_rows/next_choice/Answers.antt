@@ -1,7 +1,8 @@
 -- The rows of a step give its option.
 use Rattle.std.proofs.Common.{sym, ◌≡◌, ◌+◌, min, length, subst, rules}
 use Rattle.sql_reads.specs.OptionChoice.{AreOfStep, IsRowChosen, IsNextChoice}
-use Rattle.sql_reads.proofs.ChoiceLemmas.{next_told, of_step, option_texts}
+use Rattle.sql_reads.proofs.ChoiceLemmas.{next_told}
+use Rattle.sql_reads.proofs.OptionReasons.{of_step, option_texts}
 use Rattle.sql_reads.proofs.ReadLemmas.{also_ok, found_rows, query_fails, read_so}
 use Rattle.sql_reads.proofs.plan_rows.next_choice.Goals as goal
 

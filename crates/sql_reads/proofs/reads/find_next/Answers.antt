@@ -1,7 +1,7 @@
 -- The row that is found is that of the next item.
 use Rattle.std.proofs.Common.{arith}
 use Rattle.sql_reads.proofs.ReadLemmas.{found_rows, no_read, query_fails, read_never, read_ok}
-use Rattle.sql_reads.proofs.ReadJourneys.{next_sought}
+use Rattle.sql_reads.proofs.ReadSought.{next_sought}
 use Rattle.sql_reads.proofs.ReadReasons.{item_early}
 use Rattle.sql_reads.proofs.reads.find_next.Goals as goal
 

@@ -1,7 +1,7 @@
 -- The row that is found is that of the journey.
 use Rattle.std.proofs.Common.{arith, rules}
 use Rattle.sql_reads.proofs.ReadLemmas.{found_rows, query_fails, read_err, read_ok}
-use Rattle.sql_reads.proofs.ReadJourneys.{row_found}
+use Rattle.sql_reads.proofs.ReadSought.{row_found}
 use Rattle.sql_reads.proofs.ReadReasons.{has_text}
 use Rattle.sql_reads.proofs.reads.find_row.Goals as goal
 

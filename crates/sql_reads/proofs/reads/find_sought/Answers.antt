@@ -1,7 +1,7 @@
 -- A journey's row has the event that began it and the number of its steps.
 use Rattle.std.proofs.Common.{refl, arith, rules}
 use Rattle.sql_reads.proofs.ReadLemmas.{read_err, read_never, read_ok}
-use Rattle.sql_reads.proofs.ReadJourneys.{sought_nowhere, sought_there}
+use Rattle.sql_reads.proofs.ReadSought.{sought_nowhere, sought_there}
 use Rattle.sql_reads.proofs.reads.find_sought.Goals as goal
 
 pub returns-in_err-row-clause-read : goal.returns-in_err-row-clause-read

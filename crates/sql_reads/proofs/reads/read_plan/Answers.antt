@@ -5,7 +5,7 @@ use Rattle.sql_model.proofs.Readings.{plan_read}
 use Rattle.sql_reads.specs.Reading.{IsPlanOf}
 use Rattle.sql_reads.specs.PlanRows.{TellPlan}
 use Rattle.sql_reads.proofs.ReadLemmas.{both_ok, found_rows, query_fails, read_so}
-use Rattle.sql_reads.proofs.ChoiceLemmas.{plan_rows, want_texts}
+use Rattle.sql_reads.proofs.GoodTexts.{plan_rows, want_texts}
 use Rattle.sql_reads.proofs.reads.read_plan.Goals as goal
 
 -- the rows of the journey give its plan

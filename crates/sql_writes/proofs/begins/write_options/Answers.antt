@@ -5,8 +5,9 @@ use Rattle.std.proofs.Common.{◌+◌, ◌<◌, ◌≤◌, Bool, length, ap, ari
 use Rattle.plan.proofs.LimitLemmas.{few_options, limited}
 use Rattle.sql_model.specs.Beginning.{adds_steps}
 use Rattle.sql_model.proofs.PlanParts.{first_rows_of_step-more, first_rows_of_step-all}
-use Rattle.sql_writes.proofs.Permitting.{adds_steps-append, next_option, next_option_fits, one_row, codes_short}
+use Rattle.sql_writes.proofs.OptionLemmas.{adds_steps-append, next_option, next_option_fits, one_row}
 use Rattle.sql_writes.proofs.Doing.{numbered, open_and, open_as, open_fail}
+use Rattle.sql_writes.proofs.Permitting.{codes_short}
 use Rattle.sql_writes.proofs.begins.write_options.Goals as goal
 
 -- a flag is a small number

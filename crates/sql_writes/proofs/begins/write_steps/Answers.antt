@@ -3,7 +3,7 @@ use Rattle.sql_model.specs.ExpectedRows.{step_rows_of, none_taken}
 use Rattle.sql_model.specs.Beginning.{adds_steps, first_steps}
 use Rattle.sql_model.proofs.PlanParts.{step_rows_of-more}
 use Rattle.sql_model.proofs.PlanWriting.{step_rows-all}
-use Rattle.sql_writes.proofs.Permitting.{next_step, next_step_fits}
+use Rattle.sql_writes.proofs.OptionLemmas.{next_step, next_step_fits}
 use Rattle.sql_writes.proofs.Doing.{open_and, open_as, open_fail}
 use Rattle.sql_writes.proofs.begins.write_steps.Goals as goal
 

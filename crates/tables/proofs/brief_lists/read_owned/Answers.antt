@@ -1,16 +1,15 @@
 -- The briefs that are taken are those of the state that is kept. No journey has a number above those that a query may have.
 -- More than 60 lines: four ways out.
 use Rattle.std.proofs.Common.{◌≡◌, ◌∙◌, ◌==◌, [], true, false, length, sym, ap, arith, eqb-true, rules, take}
-use Rattle.std.proofs.lemmas.List.{nil_from_length}
 use Rattle.desk_sql.specs.FoundRows.{is_owned_after}
 use Rattle.saga_core.specs.Views.{is_owned_above, owned_above}
-use Rattle.saga_core.proofs.BriefLemmas.{briefs_of}
 use Rattle.sql_reads.proofs.ReadLemmas.{read_err, read_never, read_ok}
 use Rattle.sql_reads.proofs.ReadReasons.{few_journeys}
 use Rattle.report_writers.proofs.ReadyLemmas.{ready_alone, takes_fails}
 use Rattle.report_writers.proofs.ShowLemmas.{reported_store}
-use Rattle.tables.proofs.ReadingLemmas.{briefs_read, not_begun_read, owned_agree}
-use Rattle.tables.proofs.FinishedLemmas.{none_above, none_past}
+use Rattle.tables.proofs.BriefLists.{briefs_read, owned_agree}
+use Rattle.tables.proofs.OwnedLists.{no_items, none_above, none_past}
+use Rattle.tables.proofs.Taken.{not_begun_read}
 use Rattle.tables.proofs.brief_lists.read_owned.Goals as goal
 use Rattle.tables.proofs.brief_lists.read_owned.Goals.{else-after-gt-LARGEST-via-then-after-gt-LARGEST+else-not-is_empty, else-after-gt-LARGEST-via-else-after-gt-LARGEST}
 
@@ -60,9 +59,8 @@ returns g c =
     (λ clean good up store. takes_fails taken.takes clean (ready_alone g.S.Store _ (c.new.ensures.going, good) up) (reported_store _ store)))
     (λ s desk is. elim c.else-after-gt-LARGEST.branch [
       | else-after-gt-LARGEST-via-then-after-gt-LARGEST+else-not-is_empty w ↦ (
-          let none : briefs.items ≡ []
-          = nil_from_length briefs.items (sym briefs.ok.0 ∙ eqb-true _ _ (sym w.is_empty.ensures ∙ w.if-not-is_empty.false)) in
-          none ∙ sym (none_above agent after c.args.after c.args.most (briefs_of s.ledger) (search rules) (sym is ∙ none)))
+          let none : briefs.items ≡ [] = no_items briefs (eqb-true _ _ (sym w.is_empty.ensures ∙ w.if-not-is_empty.false)) in
+          none ∙ sym (none_above s.ledger agent after c.args.after c.args.most (search rules) (sym is ∙ none)))
       | else-after-gt-LARGEST-via-else-after-gt-LARGEST w ↦ (
           let same : after ≡ c.args.after = search (rules, w.if-after-gt-LARGEST.false) in
           is ∙ ap (λ n. take c.args.most (owned_above s.ledger agent n)) same)

@@ -7,7 +7,8 @@ use Rattle.reports.proofs.TakeLemmas.{whole_list}
 use Rattle.report_writers.proofs.HandedBriefs.{unfinished_agree}
 use Rattle.report_writers.proofs.ReadyLemmas.{ready_alone, takes_fails}
 use Rattle.report_writers.proofs.ShowLemmas.{reported_store}
-use Rattle.tables.proofs.ReadingLemmas.{briefs_read, not_begun_read}
+use Rattle.tables.proofs.BriefLists.{briefs_read}
+use Rattle.tables.proofs.Taken.{not_begun_read}
 use Rattle.tables.proofs.brief_lists.read_unfinished.Goals as goal
 
 -- rows that could not be started

@@ -2,7 +2,7 @@
 use Rattle.std.proofs.Common.{◌≡◌, ◌∙◌, Some, None, sym, arith, rules}
 use Rattle.saga_core.specs.Views.{first_unfinished}
 use Rattle.sql_reads.proofs.ReadLemmas.{no_read, read_both, read_never, read_ok, then_err}
-use Rattle.tables.proofs.FinishedLemmas.{few_unfinished, none_left, one_counted}
+use Rattle.tables.proofs.WalkLemmas.{few_unfinished, none_left, one_counted}
 use Rattle.tables.proofs.counting.count_unfinished.Goals as goal
 
 -- none was counted

@@ -7,8 +7,8 @@ use Rattle.sqlite.specs.Held.{Held, state}
 use Rattle.sqlite.specs.State.{HasCleanDisk}
 use Rattle.desk_sql.specs.Indexing.{HasExtra, indexed_schema}
 use Rattle.tables.specs.Indexing.{Keeps, GivesIndex}
-use Rattle.tables.proofs.IndexLemmas.{keeps_indexed, keeps_uncommitted, keeps_undone, made_index, wrote_index}
-use Rattle.tables.proofs.MigratingLemmas.{is_fault}
+use Rattle.tables.proofs.IndexLemmas.{left_from, keeps_indexed, keeps_uncommitted, keeps_undone, made_index, wrote_index}
+use Rattle.tables.proofs.Telling.{is_fault}
 use Rattle.sql_writes.proofs.CommitLemmas.{Wrote}
 use Rattle.tables.proofs.indexing.add_to.Goals as goal
 
@@ -18,10 +18,9 @@ returns-in-Ok-clause-keeps g c =
     let late = c.add_index.new.tx.conn.now in
     let end = c.commit.new.self.0 in
     let same : end ≡ c.conn-2-1.given.0 = search rules in
-    let from : c.transaction-tx.result.conn.now ≡ record old { in_transaction = true } = c.transaction-tx.ensures.begun in
     let wrote : Wrote g.S.Store (record old { in_transaction = true }) late (λ _. ⊤) 0 (λ t. t)
-    = wrote_index g.S.Store old late c.requires.lacks (rw from at c.add_index.ensures.goes.survives) (rw from at c.in_default.ensures.goes.live)
-    (rw from at c.in_default.ensures.made) (rw from at c.add_index.ensures.goes.commit) (rw from at c.in_default.ensures.goes.inside) in
+    = wrote_index g.S.Store old c.transaction-tx.result.conn.now late c.transaction-tx.ensures.begun c.requires.lacks
+    c.add_index.ensures.goes.survives c.add_index.ensures.goes.commit c.in_default.ensures.goes.live c.in_default.ensures.goes.inside c.in_default.ensures.made in
     subst (λ (h : Held g.row.S.Denot). Keeps g.S.Store old h) same (λ s keeps clean.
     keeps_indexed g.S.Store old late end s keeps wrote (omega (arith, c.commit.ensures.survives.clean, clean)) g.met.S.Store.settled (c.in-Ok.ensures.ok clean).1)
 
@@ -33,9 +32,8 @@ returns-in-Ok-clause-ends g c =
     let same : end ≡ c.conn-2-1.given.0 = search rules in
     subst (λ (h : Held g.row.S.Denot). GivesIndex g.S.Store old h) same (λ clean s keeps.
     let at_late : HasCleanDisk (state g.S.Store late) = omega (arith, c.commit.ensures.survives.clean, clean) in
-    let from : c.transaction-tx.result.conn.now ≡ record old { in_transaction = true } = c.transaction-tx.ensures.begun in
-    let made = made_index g.S.Store old late c.requires.lacks (rw from at c.add_index.ensures.goes.survives)
-    (rw from at c.in_default.ensures.goes.live) (rw from at c.in_default.ensures.made) s keeps at_late in
+    let made = made_index g.S.Store old c.transaction-tx.result.conn.now late c.transaction-tx.ensures.begun c.requires.lacks s keeps
+    c.add_index.ensures.goes.survives c.in_default.ensures.goes.live c.in_default.ensures.made at_late in
     let is : end.schema ≡ indexed_schema = ap (λ (d : Database). d.schema) (c.in-Ok.ensures.ok clean).1.now_is ∙ made.schema in
     subst HasExtra (sym is) (omega arith))
 
@@ -45,11 +43,10 @@ returns-in-Err-clause-keeps g c =
     let old = c.args.conn.now in
     let late = c.add_index.new.tx.conn.now in
     let end = c.rollback.new.self.0 in
-    let from : c.transaction-tx.result.conn.now ≡ record old { in_transaction = true } = c.transaction-tx.ensures.begun in
     let same : end ≡ c.conn-1.given.0 = search rules in
     subst (λ (h : Held g.row.S.Denot). Keeps g.S.Store old h) same (λ s keeps clean.
     keeps_undone g.S.Store old late end s keeps
-    (record { less = rw from at c.add_index.ensures.goes.survives; commit = rw from at c.add_index.ensures.goes.commit })
+    (left_from g.S.Store old c.transaction-tx.result.conn.now late c.transaction-tx.ensures.begun c.add_index.ensures.goes.survives c.add_index.ensures.goes.commit)
     c.rollback.ensures.survives (λ clean. c.rollback.ensures.undone clean) clean)
 
 pub returns-in-Err-clause-ends : goal.returns-in-Err-clause-ends
@@ -62,10 +59,9 @@ returns-in-Err-commit-clause-keeps g c =
     let late = c.add_index.new.tx.conn.now in
     let end = c.commit.new.self.0 in
     let same : end ≡ c.conn-2-1.given.0 = search rules in
-    let from : c.transaction-tx.result.conn.now ≡ record old { in_transaction = true } = c.transaction-tx.ensures.begun in
     let wrote : Wrote g.S.Store (record old { in_transaction = true }) late (λ _. ⊤) 0 (λ t. t)
-    = wrote_index g.S.Store old late c.requires.lacks (rw from at c.add_index.ensures.goes.survives) (rw from at c.in_default.ensures.goes.live)
-    (rw from at c.in_default.ensures.made) (rw from at c.add_index.ensures.goes.commit) (rw from at c.in_default.ensures.goes.inside) in
+    = wrote_index g.S.Store old c.transaction-tx.result.conn.now late c.transaction-tx.ensures.begun c.requires.lacks
+    c.add_index.ensures.goes.survives c.add_index.ensures.goes.commit c.in_default.ensures.goes.live c.in_default.ensures.goes.inside c.in_default.ensures.made in
     subst (λ (h : Held g.row.S.Denot). Keeps g.S.Store old h) same (λ s keeps clean.
     keeps_uncommitted g.S.Store old late end s keeps wrote c.commit.ensures.survives _ (λ clean. c.in-Err-commit.ensures.err clean) clean)
 

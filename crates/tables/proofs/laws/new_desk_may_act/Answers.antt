@@ -1,5 +1,5 @@
 -- A new desk has no row that takes a rowid.
-use Rattle.tables.proofs.Founding.{new_desk_may_act}
+use Rattle.tables.proofs.NewDesks.{new_desk_may_act}
 use Rattle.tables.proofs.laws.new_desk_may_act.Goals as goal
 
 pub returns : goal.returns

@@ -4,8 +4,10 @@ use Rattle.std.proofs.Common.{◌≡◌, inl, inr, Err, ap, rules}
 use Rattle.desk_sql.specs.Rows.{MetaRow}
 use Rattle.sql_model.proofs.Quieting.{quiet_up}
 use Rattle.tables.specs.MigrateReasons.{HasTooMany}
-use Rattle.tables.proofs.MigratingLemmas.{fails_later, kept_there, left_as_before, left_either, not_refused, refuses_others, shows_as_before, shows_either, tells_later, was_not_new}
-use Rattle.tables.proofs.OpenKept.{as_before}
+use Rattle.tables.proofs.FailLemmas.{fails_later}
+use Rattle.tables.proofs.Quiet.{as_before}
+use Rattle.tables.proofs.Stopping.{kept_there, left_as_before, left_either, refuses_others, shows_as_before, shows_either, was_not_new}
+use Rattle.tables.proofs.Telling.{not_refused, tells_later}
 use Rattle.tables.proofs.migrating.migrate.Goals as goal
 
 -- a refusal, or a fault before the transaction: nothing has changed
@@ -43,8 +45,7 @@ returns-in_err-bring_over-clause-fails g c =
     rw same (record {
       told = tells_later g.S.Store old mid new (as_before g.S.Store old mid quiet) why failed.fault failed.memory;
       only_old = λ refused. absurd (not_refused why failed.fault refused);
-      reason = λ clean s stood up store. fails_later {Q = HasTooMany s} g.S.Store old mid new s (quiet_up g.S.Store old mid quiet) failed.up
-          (sound clean) up
+      reason = λ clean s stood up store. fails_later g.S.Store old mid new s (quiet_up g.S.Store old mid quiet) failed.up (sound clean) up {Q = HasTooMany s}
           (λ still. failed.store clean s (read.numbers (sound clean) s stood) (kept_there g.S.Store old mid quiet s stood) still store);
       shows = shows_either g.S.Store old mid new m quiet read.version read.filled sound failed.shows;
       stop = left_either g.S.Store old mid new m quiet read.version read.filled sound read.numbers failed.stop;

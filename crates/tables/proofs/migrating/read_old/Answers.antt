@@ -4,8 +4,9 @@ use Rattle.sqlite.specs.State.{HasCleanDisk}
 use Rattle.sqlite.specs.Held.{state}
 use Rattle.desk_sql.specs.Schema.{no_schema}
 use Rattle.desk_sql.specs.declared.versions.Version.TheVariants.{One, Two}
-use Rattle.tables.proofs.MigratingLemmas.{judges, meta_fails, not_memory, tells_fault}
-use Rattle.tables.proofs.OpenKept.{as_before}
+use Rattle.tables.proofs.FailLemmas.{meta_fails, not_memory}
+use Rattle.tables.proofs.Telling.{judges, tells_fault}
+use Rattle.tables.proofs.Quiet.{as_before}
 use Rattle.tables.proofs.migrating.read_old.Goals as goal
 
 pub returns-in-Ok-clause-tries : goal.returns-in-Ok-clause-tries

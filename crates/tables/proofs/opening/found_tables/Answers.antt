@@ -31,7 +31,7 @@ returns-in-Err g c =
     let less : LeavesNoMore g.S.Store (record old { in_transaction = true }) late = rw from at c.in-Err.ensures.goes.survives in
     subst (λ (h : Held g.row.S.Denot). FailsOpening g.S.Store old h c.opening_fault.result) same
     (not_made g.S.Store old late end c.requires.idle c.requires.bare less c.rollback.ensures.ended c.rollback.ensures.survives
-    (λ db none. none) (rw from at c.in-Err.ensures.goes.commit) c.rollback.ensures.undone c.in-Err.error c.fault_of.result c.opening_fault.result
+    (rw from at c.in-Err.ensures.goes.commit) c.rollback.ensures.undone c.in-Err.error c.fault_of.result c.opening_fault.result
     (rw from at c.in-Err.ensures.reason) c.fault_of.ensures.memory c.opening_fault.ensures.memory c.opening_fault.ensures.store)
 
 -- the commit failed and was rolled back

@@ -7,7 +7,7 @@ use Rattle.desk_sql.specs.Schema.{seven_schema, entry2_at, mark_at}
 use Rattle.desk_sql.specs.Texts.{entry2_text, mark_text}
 use Rattle.desk_sql.proofs.CreateReasons.{create_reason, reason_since, entry2_is_new, mark_is_new}
 use Rattle.desk_sql.proofs.Making.{schema_8}
-use Rattle.tables.proofs.StatementLemmas.{adds_entry2, adds_mark, has_added}
+use Rattle.tables.proofs.Adding.{adds_entry2, adds_mark, has_added}
 use Rattle.tables.proofs.statements.add_tables.Goals as goal
 
 pub returns-clause-made : goal.returns-clause-made

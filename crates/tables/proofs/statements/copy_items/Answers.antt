@@ -4,7 +4,7 @@ use Rattle.sqlite.specs.Held.{state}
 use Rattle.desk_sql.proofs.Writing.{pos_is}
 use Rattle.desk_sql.specs.Causes.{HasReason}
 use Rattle.tables.proofs.CopyReasons.{copy_reason}
-use Rattle.tables.proofs.StatementLemmas.{copies_range}
+use Rattle.tables.proofs.Filling.{copies_range}
 use Rattle.tables.proofs.statements.copy_items.Goals as goal
 
 pub returns-clause-made : goal.returns-clause-made

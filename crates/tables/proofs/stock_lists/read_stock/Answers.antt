@@ -25,7 +25,7 @@ use Rattle.report_writers.proofs.HandedStock.{stock_in_order}
 use Rattle.report_writers.proofs.ReadyLemmas.{ready_alone, takes_fails}
 use Rattle.report_writers.proofs.ShowLemmas.{reported_store}
 use Rattle.report_writers.proofs.StockOrder.{stock_there}
-use Rattle.tables.proofs.ReadingLemmas.{list_read, not_begun_read}
+use Rattle.tables.proofs.Taken.{list_read, not_begun_read}
 use Rattle.tables.proofs.stock_lists.read_stock.Goals as goal
 
 -- rows that could not be started

@@ -8,7 +8,7 @@ use Rattle.reports.proofs.TakeLemmas.{whole_list}
 use Rattle.report_writers.specs.ItemsLeft.{IsNotStarted}
 use Rattle.report_writers.proofs.ReadyLemmas.{at_start, ready_alone, takes_fails}
 use Rattle.report_writers.proofs.ShowLemmas.{reported_store}
-use Rattle.tables.proofs.ReadingLemmas.{list_read}
+use Rattle.tables.proofs.Taken.{list_read}
 use Rattle.tables.proofs.traces.read_each.Goals as goal
 
 pub returns : goal.returns

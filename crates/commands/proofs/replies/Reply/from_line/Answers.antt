@@ -4,7 +4,7 @@ use Rattle.std.proofs.lemmas.Iterator.Consumers.{map_from_collect}
 use Rattle.std.proofs.lemmas.Iterator.Splits.{YieldsList-from_str_split}
 use Rattle.std.proofs.lemmas.Result.{IfOk-at_ok}
 use Rattle.commands.specs.Readings.{texts_of}
-use Rattle.commands.proofs.BlankLemmas.{found_by_words}
+use Rattle.commands.proofs.LineLemmas.{found_by_words}
 use Rattle.commands.proofs.OneLineLemmas.{found_is_read}
 use Rattle.commands.proofs.replies.Reply.from_line.Goals as goal
 

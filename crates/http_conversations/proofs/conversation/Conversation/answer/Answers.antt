@@ -2,7 +2,7 @@
 use Rattle.std.proofs.Common.{arith}
 use Rattle.std.proofs.Math.Logic.{∥∥₁_map}
 use Rattle.http_conversations.specs.Talks.{history_of}
-use Rattle.http_conversations.proofs.ReasonLemmas.{turn}
+use Rattle.http_conversations.proofs.AnswerSteps.{turn}
 use Rattle.http_conversations.proofs.Steps.{takes, takes_leaves, takes_within}
 use Rattle.http_conversations.proofs.conversation.Conversation.answer.Goals as goal
 

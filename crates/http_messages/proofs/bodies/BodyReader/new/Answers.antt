@@ -3,7 +3,7 @@ use Rattle.std.proofs.Common.{◌≡◌, ◌∙◌, ap, sym, subst, ◌↔◌}
 use Rattle.http1.specs.Decoder.{decoder_for}
 use Rattle.http1.specs.declared.decode.Decoder.TheVariants.{Chunked}
 use Rattle.http_messages.specs.Bodies.{Awaits, IsBody, first_reading, framing_of, limits}
-use Rattle.http_messages.proofs.LawLemmas.{begins, reading}
+use Rattle.http_messages.proofs.BodyLemmas.{begins, reading}
 use Rattle.http_messages.proofs.bodies.BodyReader.new.Goals as goal
 use Rattle.http_messages.proofs.bodies.BodyReader.new.Goals.{in-Sized, in-Chunked}
 

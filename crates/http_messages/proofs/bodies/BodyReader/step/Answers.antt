@@ -2,7 +2,7 @@
 use Rattle.std.proofs.Common.{◌≡◌, ◌∙◌, ap, sym, subst, ◌++◌, arith}
 use Rattle.httparse.specs.Spans.{span_bytes}
 use Rattle.http_messages.specs.Bodies.{Moves}
-use Rattle.http_messages.proofs.LawLemmas.{ends, goes, is_short, moves_on, reading, too_large}
+use Rattle.http_messages.proofs.BodyLemmas.{ends, goes, is_short, moves_on, reading, too_large}
 use Rattle.http_messages.proofs.bodies.BodyReader.step.Goals as goal
 
 -- more is needed

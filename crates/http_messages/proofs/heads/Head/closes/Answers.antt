@@ -1,6 +1,6 @@
 -- Field after field, none says it, until one does.
 use Rattle.std.proofs.Common.{arith, codes, take}
-use Rattle.http_messages.proofs.HeadLemmas.{values_from}
+use Rattle.http_messages.proofs.FieldLemmas.{values_from}
 use Rattle.http_messages.proofs.heads.Head.closes.Goals as goal
 use Rattle.http_messages.proofs.heads.Head.closes.Goals.{else-is_alike-via-then-is_alike+else-is_alike-2, else-is_alike-via-else-is_alike}
 

@@ -1,7 +1,7 @@
 use Rattle.std.proofs.Common.{◌≡◌, drop, codes}
 use Rattle.std.specs.List.{list_any}
 use Rattle.http_messages.specs.Heads.{is_alike}
-use Rattle.http_messages.proofs.HeadLemmas.{values_in}
+use Rattle.http_messages.proofs.FieldLemmas.{values_in}
 use Rattle.http_messages.proofs.heads.Head.closes.Given as goal
 
 -- some field says it just if one of those that are left does

@@ -1,6 +1,6 @@
 -- Field after field, what is found is what came before those that are left.
 use Rattle.std.proofs.Common.{arith, take}
-use Rattle.http_messages.proofs.HeadLemmas.{values_from}
+use Rattle.http_messages.proofs.FieldLemmas.{values_from}
 use Rattle.http_messages.proofs.heads.Head.find.Goals as goal
 use Rattle.http_messages.proofs.heads.Head.find.Goals.{then-is_alike, else-is_alike}
 

@@ -1,6 +1,6 @@
 use Rattle.std.proofs.Common.{drop}
 use Rattle.http_messages.specs.Fields.{IsFoundBefore}
-use Rattle.http_messages.proofs.HeadLemmas.{values_in}
+use Rattle.http_messages.proofs.FieldLemmas.{values_in}
 use Rattle.http_messages.proofs.heads.Head.find.Given as goal
 
 -- so much is found before the fields that are left

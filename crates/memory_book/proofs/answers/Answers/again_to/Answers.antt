@@ -2,7 +2,7 @@ use Rattle.std.proofs.Common.{◌≡◌, ap, ◌∙◌, Some, option_map}
 use Rattle.std.specs.BTreeMap as tree
 use Rattle.ledger.specs.Answer.{answered_again}
 use Rattle.memory_book.specs.MemoryAnswers.{ask_key_cmp, kept_said, kept_in}
-use Rattle.memory_book.proofs.CellLemmas.{ask_key-is}
+use Rattle.memory_book.proofs.KeptLemmas.{ask_key-is}
 use Rattle.memory_book.proofs.answers.Answers.again_to.Goals as goal
 
 -- the kept reply is the one under the agent and the key of the request

@@ -1,6 +1,6 @@
 use Rattle.std.proofs.Common.{◌∙◌, ◌&&◌, bytes_eq, if◌then◌else◌, Some}
 use Rattle.memory_book.specs.MemoryAnswers.{kept_in}
-use Rattle.memory_book.proofs.CellLemmas.{kept_in-insert}
+use Rattle.memory_book.proofs.KeptLemmas.{kept_in-insert}
 use Rattle.memory_book.proofs.answers.Answers.keep.Goals as goal
 
 -- the reply is kept under the agent and the key of the request, with its text

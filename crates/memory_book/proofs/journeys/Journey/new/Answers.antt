@@ -1,6 +1,6 @@
 use Rattle.std.proofs.Common.{ap, refl, sym}
 use Rattle.ledger.proofs.Taken.{marks_of-begin}
-use Rattle.memory_book.proofs.ReadyLemmas.{phase-begun}
+use Rattle.memory_book.proofs.JourneyLemmas.{phase-begun}
 use Rattle.memory_book.proofs.journeys.Journey.new.Goals as goal
 
 -- the journey has made no item

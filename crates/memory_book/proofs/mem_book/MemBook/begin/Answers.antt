@@ -3,7 +3,8 @@ use Rattle.std.specs.Option.{option_copied}
 use Rattle.plan.specs.PlanModel.{is_plan}
 use Rattle.ledger.specs.Answer.{most_events}
 use Rattle.memory_book.specs.Memory.{begun_as, TellEach, StandsFor}
-use Rattle.memory_book.proofs.GrowthLemmas.{owner, carried_out-begun, at_error, keeps_book, room_left}
+use Rattle.memory_book.proofs.BeginLemmas.{owner, carried_out-begun}
+use Rattle.memory_book.proofs.GrowthLemmas.{at_error, keeps_book, room_left}
 use Rattle.memory_book.proofs.mem_book.MemBook.begin.Goals as goal
 use Rattle.memory_book.proofs.mem_book.MemBook.begin.Goals.{in-Some, in-None}
 

@@ -2,7 +2,7 @@ use Rattle.std.proofs.Common.{sym, subst}
 use Rattle.std.specs.Option.{option_copied}
 use Rattle.commands.specs.Orders.{request_of}
 use Rattle.memory_book.specs.Memory.{Comes}
-use Rattle.memory_book.proofs.LoadLemmas.{again-known, outcome-new}
+use Rattle.memory_book.proofs.ActLemmas.{again-known, outcome-new}
 use Rattle.memory_book.proofs.mem_book.MemBook.execute.Goals as goal
 
 -- the key is known, and nothing changes

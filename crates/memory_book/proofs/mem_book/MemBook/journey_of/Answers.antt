@@ -1,6 +1,6 @@
 use Rattle.std.proofs.Common.{refl}
 use Rattle.std.proofs.lemmas.Option.{slice_get_read}
-use Rattle.memory_book.proofs.GrowthLemmas.{journey_at-past, is_kept}
+use Rattle.memory_book.proofs.StandLemmas.{journey_at-past, is_kept}
 use Rattle.memory_book.proofs.mem_book.MemBook.journey_of.Goals as goal
 
 -- the journey at a place has the next number

@@ -7,7 +7,8 @@ use Rattle.ledger.specs.AnswerChanges.{moves}
 use Rattle.memory_book.specs.Memory.{IsCarriedOut, StandsFor}
 use Rattle.memory_book.specs.declared.journeys.Journey.{Journey}
 use Rattle.memory_book.proofs.GrowthLemmas.{at_error}
-use Rattle.memory_book.proofs.ReadyLemmas.{carried_out-made, moved, in_plan, keeps-reserved, next_within, next-same, same_by}
+use Rattle.memory_book.proofs.MoveLemmas.{carried_out-made, moved}
+use Rattle.memory_book.proofs.ReadyLemmas.{in_plan, keeps-reserved, next_within, next-same, same_by}
 use Rattle.memory_book.proofs.StepLemmas.{same_item}
 use Rattle.memory_book.proofs.mem_book.MemBook.make.Goals as goal
 

@@ -1,5 +1,5 @@
 use Rattle.std.proofs.Common.{◌∙◌}
-use Rattle.memory_book.proofs.CellLemmas.{places_shown-stock}
+use Rattle.memory_book.proofs.RowLemmas.{places_shown-stock}
 use Rattle.memory_book.proofs.mem_book.MemBookBook.cells.Goals as goal
 
 -- the nights that the stock shows

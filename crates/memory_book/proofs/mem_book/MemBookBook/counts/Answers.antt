@@ -1,5 +1,5 @@
 use Rattle.std.proofs.Common.{refl, ap, length}
-use Rattle.memory_book.proofs.GrowthLemmas.{counts-kept}
+use Rattle.memory_book.proofs.UnfinishedLemmas.{counts-kept}
 use Rattle.memory_book.proofs.mem_book.MemBookBook.counts.Goals as goal
 
 -- the numbers that are kept are those of the ledger

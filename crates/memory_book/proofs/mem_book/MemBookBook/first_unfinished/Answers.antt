@@ -1,6 +1,6 @@
 use Rattle.std.proofs.Common.{ap, ◌∙◌, find}
 use Rattle.saga_core.specs.Views.{is_unfinished_above}
-use Rattle.memory_book.proofs.GrowthLemmas.{briefs-kept}
+use Rattle.memory_book.proofs.UnfinishedLemmas.{briefs-kept}
 use Rattle.memory_book.proofs.mem_book.MemBookBook.first_unfinished.Goals as goal
 
 -- the first journey is the first of those that are kept

@@ -1,7 +1,7 @@
 use Rattle.std.proofs.Common.{Some, ap, sym, ◌∙◌, option_map}
 use Rattle.ledger.specs.Ledger.{history}
 use Rattle.saga_core.specs.Views.{record_of_journey}
-use Rattle.memory_book.proofs.GrowthLemmas.{record_of-kept}
+use Rattle.memory_book.proofs.StandLemmas.{record_of-kept}
 use Rattle.memory_book.proofs.mem_book.MemBookBook.journey.Goals as goal
 
 -- there is no such journey

@@ -1,6 +1,6 @@
 use Rattle.std.proofs.Common.{ap, ◌∙◌, filter, take}
 use Rattle.saga_core.specs.Views.{is_owned_above}
-use Rattle.memory_book.proofs.GrowthLemmas.{briefs-kept}
+use Rattle.memory_book.proofs.UnfinishedLemmas.{briefs-kept}
 use Rattle.memory_book.proofs.mem_book.MemBookBook.owned.Goals as goal
 
 -- the agent's journeys are among those that are kept

@@ -1,6 +1,6 @@
 use Rattle.std.proofs.Common.{subst, sym}
 use Rattle.saga_core.specs.Views.{IsStock}
-use Rattle.memory_book.proofs.CellLemmas.{IsStock-rows}
+use Rattle.memory_book.proofs.RowLemmas.{IsStock-rows}
 use Rattle.memory_book.proofs.mem_book.MemBookBook.stock.Goals as goal
 
 -- all cells are listed

@@ -1,7 +1,7 @@
 use Rattle.std.proofs.Common.{Some, ap, sym, ◌∙◌, option_map}
 use Rattle.ledger.specs.Ledger.{history}
 use Rattle.saga_core.specs.Views.{brief_of_journey}
-use Rattle.memory_book.proofs.GrowthLemmas.{brief_of-kept}
+use Rattle.memory_book.proofs.StandLemmas.{brief_of-kept}
 use Rattle.memory_book.proofs.mem_book.MemBookBook.trace.Goals as goal
 
 -- there is no such journey

@@ -1,5 +1,5 @@
 use Rattle.std.proofs.Common.{◌∙◌}
-use Rattle.memory_book.proofs.GrowthLemmas.{unfinished-kept}
+use Rattle.memory_book.proofs.UnfinishedLemmas.{unfinished-kept}
 use Rattle.memory_book.proofs.mem_book.MemBookBook.unfinished.Goals as goal
 
 -- the unfinished journeys are among those that are kept

@@ -1,5 +1,5 @@
 use Rattle.std.proofs.Common.{◌∙◌, rules, tests}
-use Rattle.memory_book.proofs.CellLemmas.{same_rows}
+use Rattle.memory_book.proofs.RowLemmas.{same_rows}
 use Rattle.memory_book.proofs.mem_book.loading.has_same_rows.Goals as goal
 
 -- row by row, cell and places are compared

@@ -3,7 +3,8 @@ use Rattle.std.proofs.lemmas.List.{take_more}
 use Rattle.allotment.specs.Cells.{is_cell}
 use Rattle.saga_core.specs.Views.{places_said}
 use Rattle.memory_book.specs.MemoryStock.{stock_at}
-use Rattle.memory_book.proofs.CellLemmas.{stock_at-put, loaded_at, loaded_at-push}
+use Rattle.memory_book.proofs.CellLemmas.{stock_at-put}
+use Rattle.memory_book.proofs.RowLemmas.{loaded_at, loaded_at-push}
 use Rattle.memory_book.proofs.stock.Stock.loaded.Goals as goal
 
 -- one more row is loaded

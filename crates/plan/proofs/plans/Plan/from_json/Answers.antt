@@ -5,7 +5,9 @@ use Rattle.serde_json.specs.View.{view}
 use Rattle.plan.specs.Limits.{most_steps}
 use Rattle.plan.specs.PlanModel.{plan_said}
 use Rattle.plan.specs.PlanJson.{plan_in_json}
-use Rattle.plan.proofs.LevelLemmas.{fault_of_part, json_unshaped, json_no_tries, json_miscounted, json_by_steps, json_fault_step}
+use Rattle.plan.proofs.LevelLemmas.{fault_of_part}
+use Rattle.plan.proofs.LineLemmas.{json_unshaped, json_no_tries, json_miscounted, json_by_steps}
+use Rattle.plan.proofs.FaultLemmas.{json_fault_step}
 use Rattle.plan.proofs.JsonKeptLemmas.{json_keeps_limits}
 use Rattle.plan.proofs.plans.Plan.from_json.Goals as goal
 use Rattle.plan.proofs.plans.Plan.from_json.Goals.{then-last-eq0-via-then-last-eq0, then-last-eq0-via-else-last-eq0+then-last-gt-MOST_STEPS}

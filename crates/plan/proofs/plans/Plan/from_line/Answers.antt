@@ -3,7 +3,9 @@ use Rattle.std.proofs.lemmas.Result.{err_from_is_err_and}
 use Rattle.plan.specs.PlanModel.{plan_said}
 use Rattle.plan.specs.PlanLine.{plan_in}
 use Rattle.plan.proofs.ReadLemmas.{read_is_spelled}
-use Rattle.plan.proofs.LevelLemmas.{fault_of_part, line_no_tries, line_too_long, line_by_steps, fault_step}
+use Rattle.plan.proofs.LevelLemmas.{fault_of_part}
+use Rattle.plan.proofs.LineLemmas.{line_no_tries, line_too_long, line_by_steps}
+use Rattle.plan.proofs.FaultLemmas.{fault_step}
 use Rattle.plan.proofs.plans.Plan.from_line.Goals as goal
 
 -- the line ends in no tries

@@ -3,7 +3,7 @@ use Rattle.std.proofs.lemmas.List.{length-map}
 use Rattle.std.proofs.lemmas.Result.{err_from_is_err_and}
 use Rattle.plan.specs.Limits.{most_steps}
 use Rattle.plan.specs.PlanModel.{step_said, plan_said}
-use Rattle.plan.proofs.StepLemmas.{made_tries, made_miscounted, made_by_steps, made_keeps}
+use Rattle.plan.proofs.KeptLemmas.{made_tries, made_miscounted, made_by_steps, made_keeps}
 use Rattle.plan.proofs.plans.Plan.from_steps.Goals as goal
 use Rattle.plan.proofs.plans.Plan.from_steps.Goals.{then-count-eq0-via-then-count-eq0, then-count-eq0-via-else-count-eq0+then-count-gt-MOST_STEPS}
 

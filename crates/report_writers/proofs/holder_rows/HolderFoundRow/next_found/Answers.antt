@@ -5,7 +5,7 @@ use Rattle.sql_lists.specs.HolderLists.{HoldersRest}
 use Rattle.sql_model.proofs.Staying.{of_error}
 use Rattle.report_writers.specs.HoldersLeft.{found_of}
 use Rattle.report_writers.proofs.HandedRows.{first_of_row, none_of_row, some_after}
-use Rattle.report_writers.proofs.HeldRows.{holder_same}
+use Rattle.report_writers.proofs.HandedHolders.{holder_same}
 use Rattle.report_writers.proofs.holder_rows.HolderFoundRow.next_found.Goals as goal
 
 pub returns-in-Ok-Some-clause-next : goal.returns-in-Ok-Some-clause-next

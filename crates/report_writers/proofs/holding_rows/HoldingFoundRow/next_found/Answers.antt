@@ -4,7 +4,8 @@ use Rattle.sqlite.specs.Held.{state}
 use Rattle.sql_lists.specs.HoldingLists.{HoldingsRest, holding_found}
 use Rattle.sql_model.proofs.Staying.{of_error}
 use Rattle.report_writers.specs.HoldingsLeft.{holding_short, holding_told}
-use Rattle.report_writers.proofs.HandedRows.{holding_good, holding_same, holdings_text, first_in_form, found_so, good_rows_after, none_in_form}
+use Rattle.report_writers.proofs.HoldingValues.{holding_good, holding_same, holdings_text}
+use Rattle.report_writers.proofs.HandedRows.{first_in_form, found_so, good_rows_after, none_in_form}
 use Rattle.report_writers.proofs.holding_rows.HoldingFoundRow.next_found.Goals as goal
 
 pub returns-in-Some-clause-next : goal.returns-in-Some-clause-next

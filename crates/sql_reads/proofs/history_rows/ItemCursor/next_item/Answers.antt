@@ -2,7 +2,7 @@
 use Rattle.std.proofs.Common.{refl, sym, subst, ◌∙◌}
 use Rattle.sql_model.proofs.Quieting.{quiet_keeps}
 use Rattle.sql_reads.specs.ItemSearch.{IsNextOf}
-use Rattle.sql_reads.proofs.GoingOn.{item_first, item_none}
+use Rattle.sql_reads.proofs.HandedHistory.{item_first, item_none}
 use Rattle.sql_reads.proofs.history_rows.ItemCursor.next_item.Goals as goal
 
 pub returns-in-Some-clause-next : goal.returns-in-Some-clause-next

@@ -4,9 +4,10 @@ use Rattle.std.specs.Option.{option_copied}
 use Rattle.commands.specs.Orders.{request_of}
 use Rattle.commands.specs.declared.replies.Fault.TheVariants.{Memory, Store}
 use Rattle.sql_model.proofs.Accepting.{outcome_keeps}
-use Rattle.tables.proofs.CountLemmas.{count_kept, outcome_spelled}
+use Rattle.tables.proofs.CountLemmas.{count_kept}
 use Rattle.tables.proofs.FinishedLemmas.{finished-kept}
 use Rattle.tables.proofs.SinceLemmas.{executed, not_executed}
+use Rattle.tables.proofs.SpelledLemmas.{outcome_spelled}
 use Rattle.tables.proofs.books.TableBook.carry_out.Goals as goal
 
 -- the store had failed, so that no call reaches it

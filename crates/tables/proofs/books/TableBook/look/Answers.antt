@@ -1,5 +1,5 @@
 use Rattle.std.proofs.Common.{◌∙◌}
-use Rattle.tables.proofs.FinishedLemmas.{first-from}
+use Rattle.tables.proofs.ListedLemmas.{first-from}
 use Rattle.tables.proofs.ReadingLemmas.{looks_at, looks_less}
 use Rattle.tables.proofs.books.TableBook.look.Goals as goal
 

@@ -2,8 +2,10 @@
 use Rattle.std.proofs.Common.{◌≡◌, ◌≤◌, ◌∙◌, option_copied, refl, rules, slice_get, subst, sym}
 use Rattle.sql_reads.proofs.ReadLemmas.{read_both}
 use Rattle.tables.specs.FinishedJourneys.{AreFinishedTo}
-use Rattle.tables.proofs.FinishedLemmas.{all_listed, finished_lower, finished_next, first_listed}
+use Rattle.tables.proofs.FinishedLemmas.{finished_next}
+use Rattle.tables.proofs.ListedLemmas.{finished_lower, first_listed}
 use Rattle.tables.proofs.ReadingLemmas.{looks_failed, looks_failed_then, looks_ok}
+use Rattle.tables.proofs.WalkLemmas.{all_listed}
 use Rattle.tables.proofs.books.TableBook.look_at_all.Goals as goal
 
 pub returns : goal.returns

@@ -1,7 +1,7 @@
 -- The connection of what was opened is let go without its limit of steps.
 use Rattle.std.proofs.Common.{sym, subst}
 use Rattle.tables.specs.Making.{GivesBack}
-use Rattle.tables.proofs.OpenKept.{gives_back}
+use Rattle.tables.proofs.ClosingLemmas.{gives_back}
 use Rattle.tables.proofs.opening.Opened.into_store.Goals as goal
 
 pub returns : goal.returns
